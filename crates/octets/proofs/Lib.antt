@@ -1,0 +1,2 @@
+-- The laws of octets that other proofs cite.
+pub mod Laws

@@ -1,0 +1,3 @@
+-- What places and the numbers in octets are.
+pub mod Places
+pub mod Numbers

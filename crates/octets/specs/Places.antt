@@ -1,0 +1,15 @@
+-- Document 01, "What the reader takes": octets are numbered from 1 within a section, bits from 0 within a packed run, file places from 0.
+-- In the code each kind of place has a type of its own; here each is the number that it holds.
+use Prim.Native.Nat.{ℕ, _+_, _-_, _*_, _/_}
+
+-- The file place of octet n of a section that starts at s: octet 1 stands at s itself.
+abbrev pub placeOf : ℕ → ℕ → ℕ
+placeOf s n = s + (n - 1)
+
+-- The bit place of the top bit of octet n of a run: octet 1 has the bits 0 to 7.
+abbrev pub firstBit : ℕ → ℕ
+firstBit n = (n - 1) * 8
+
+-- The number of the octet of a run that has bit b.
+abbrev pub octetHolding : ℕ → ℕ
+octetHolding b = b / 8 + 1
