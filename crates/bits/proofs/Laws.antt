@@ -1,0 +1,101 @@
+-- The laws of the number of b bits, each once, over b: its bound, its parts, and that it is cut out of a window of octets.
+use mathlib.Core.Path.{_≡_, refl, sym, ap, ap₂, _∙_}
+use Prim.Native.Nat.{ℕ, zero, suc, _+_, _-_, _*_, _/_, _%_, _^_, _≤_, _<_}
+use native.Mathlib.Nat.{add-zero, add-suc, add-assoc, mul-assoc, add-mul, pow-suc, suc-mul, lt-of-lt-of-le, lt-of-le-of-lt, le-of-lt, mul-le-mul-left, mul-lt-mul-of-pos-right}
+use native.Mathlib.Numerals.{add-one}
+use native.Mathlib.Omega.{arith}
+use mathlib.Core.List.{List}
+use lib.Arith.{digits-lt, digits-div, digits-mod}
+use lib.ListN.{getD}
+use lib.Pow.{pow-pos, pow-mono, high, low, field, shr-shr, shl-shr}
+use Rattle.octets.specs.Numbers.{numberAt}
+use Rattle.bits.specs.Bits.{bitAt, bitsAt, octetsOf}
+
+pub bit-lt : (run : List ℕ) (i : ℕ) → bitAt run i < 2
+unfolding bitAt
+bit-lt run i = omega arith
+
+-- A number of b bits is below 2 ^ b.
+pub bits-lt : (run : List ℕ) (at b : ℕ) → bitsAt run at b < 2 ^ b
+unfolding bitsAt
+bits-lt run at zero = omega arith
+bits-lt run at (suc b) = rw (pow-suc 2 b) (digits-lt (bits-lt run at b) (bit-lt run (at + b)))
+
+-- One bit more.
+pub bits-more : (run : List ℕ) (at b : ℕ) → bitsAt run at (b + 1) ≡ bitsAt run at b * 2 + bitAt run (at + b)
+unfolding bitsAt
+bits-more run at b = rw (add-one b)
+
+pub bits-more-lt : (run : List ℕ) (at taken b : ℕ) → taken < b → bitsAt run at taken * 2 + bitAt run (at + taken) < 2 ^ b
+unfolding bitsAt
+bits-more-lt run at taken b h = lt-of-lt-of-le (bits-lt run at (suc taken)) (pow-mono h)
+
+-- Some bits, and then some more.
+pub bits-add : (run : List ℕ) (at b c : ℕ) → bitsAt run at (b + c) ≡ bitsAt run at b * 2 ^ c + bitsAt run (at + b) c
+unfolding bitsAt
+bits-add run at b zero = rw (add-zero b) (omega arith)
+bits-add run at b (suc c) =
+    rw (add-suc b c, bits-add run at b c, pow-suc 2 c, ← mul-assoc (bitsAt run at b) (2 ^ c) 2, add-assoc at b c) (omega arith)
+
+bit-of-octet : (run : List ℕ) (q r : ℕ) → r < 8 → bitAt run (q * 8 + r) ≡ getD run q 0 / 2 ^ (7 - r) % 2
+unfolding bitAt
+bit-of-octet run q r h = rw (digits-div q h, digits-mod q h)
+
+-- The first r bits of an octet are its high part.
+part-of-octet : (run : List ℕ) (q r : ℕ) → getD run q 0 < 256 → r ≤ 8 → bitsAt run (q * 8) r ≡ getD run q 0 / 2 ^ (8 - r)
+unfolding bitsAt
+part-of-octet run q zero h l = omega arith
+part-of-octet run q (suc r) h l =
+    let octet : ℕ = getD run q 0 in
+    let part : ℕ = octet / 2 ^ (8 - suc r) in
+    let one-less : 8 - r ≡ (8 - suc r) + 1 = omega arith in
+    let same : 7 - r ≡ 8 - suc r = omega arith in
+    let before : bitsAt run (q * 8) r ≡ part / 2 = part-of-octet run q r h (omega arith) ∙ ap (λ (k : ℕ). octet / 2 ^ k) one-less ∙ sym (shr-shr octet (8 - suc r) 1) in
+    let last : bitAt run (q * 8 + r) ≡ part % 2 = bit-of-octet run q r l ∙ ap (λ (k : ℕ). octet / 2 ^ k % 2) same in
+    ap₂ (λ (m n : ℕ). m * 2 + n) before last ∙ omega arith
+
+-- The eight bits of an octet are the octet.
+octet-bits : (run : List ℕ) (q : ℕ) → getD run q 0 < 256 → bitsAt run (q * 8) 8 ≡ getD run q 0
+octet-bits run q h = part-of-octet run q 8 h (omega arith) ∙ omega arith
+
+-- The bits of n octets are the number that the octets hold.
+pub bits-of-octets : (run : List ℕ) (q n : ℕ) → ((i : ℕ) → getD run i 0 < 256) → bitsAt run (q * 8) (n * 8) ≡ numberAt run q n
+unfolding numberAt bitsAt
+bits-of-octets run q zero octets = refl
+bits-of-octets run q (suc n) octets =
+    rw (suc-mul n 8, bits-add run (q * 8) (n * 8) 8, bits-of-octets run q n octets, ← add-mul q n 8, octet-bits run (q + n) (octets (q + n)))
+
+-- The b bits that stand r bits after the start of a window of n bits.
+pub bits-in-window : (run : List ℕ) (at n r b : ℕ) → r + b ≤ n → bitsAt run at n / 2 ^ (n - r - b) % 2 ^ b ≡ bitsAt run (at + r) b
+bits-in-window run at n r b h =
+    let rest : ℕ = n - r - b in
+    let parts : n ≡ r + b + rest = omega arith in
+    let window : bitsAt run at n ≡ bitsAt run at (r + b) * 2 ^ rest + bitsAt run (at + (r + b)) rest = ap (bitsAt run at) parts ∙ bits-add run at (r + b) rest in
+    ap (λ (w : ℕ). w / 2 ^ rest % 2 ^ b) window
+    ∙ ap (λ (w : ℕ). w % 2 ^ b) (high (bitsAt run at (r + b)) rest (bits-lt run (at + (r + b)) rest))
+    ∙ ap (λ (w : ℕ). w % 2 ^ b) (bits-add run at r b)
+    ∙ low (bitsAt run at r) b (bits-lt run (at + r) b)
+
+-- A shift up by r, one down by 1 and one down by 63 - b cut those bits out of a window of 64.
+pub cut-by-shifts : (window r b : ℕ) → r + b ≤ 63 → window * 2 ^ r % 2 ^ 64 / 2 / 2 ^ (63 - b) ≡ window / 2 ^ (64 - r - b) % 2 ^ b
+cut-by-shifts window r b h =
+    let down : ℕ = 1 + (63 - b) in
+    let rest : ℕ = 64 - r - b in
+    let all : 64 ≡ b + down = omega arith in
+    let both : down ≡ r + rest = omega arith in
+    shr-shr (window * 2 ^ r % 2 ^ 64) 1 (63 - b)
+    ∙ ap (λ (m : ℕ). window * 2 ^ r % 2 ^ m / 2 ^ down) all
+    ∙ field (window * 2 ^ r) b down
+    ∙ ap (λ (m : ℕ). window * 2 ^ r / 2 ^ m % 2 ^ b) both
+    ∙ ap (λ (m : ℕ). m % 2 ^ b) (sym (shr-shr (window * 2 ^ r) r rest) ∙ ap (λ (m : ℕ). m / 2 ^ rest) (shl-shr window r))
+
+-- A product of two numbers of 32 bits fits 64.
+pub product-fits : {a b : ℕ} → a < 2 ^ 32 → b < 2 ^ 32 → a * b < 2 ^ 64
+product-fits {a} h k = lt-of-le-of-lt (mul-le-mul-left a (le-of-lt k)) (mul-lt-mul-of-pos-right h (pow-pos 32))
+
+-- The octets of so many bits hold them, and no fewer octets do.
+pub octets-hold : (bits : ℕ) → bits ≤ 8 * octetsOf bits
+octets-hold bits = omega arith
+
+pub octets-least : (bits n : ℕ) → bits ≤ 8 * n → octetsOf bits ≤ n
+octets-least bits n h = omega arith

@@ -1,0 +1,2 @@
+-- The laws of bits that other proofs cite.
+pub mod Laws

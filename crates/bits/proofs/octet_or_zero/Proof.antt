@@ -1,0 +1,18 @@
+-- `bits::octet_or_zero` meets its contract: past the end the definition says 0 too.
+use mathlib.Core.Path.{sym}
+use lib.ListN.{List·getD-eq-default}
+use borrow.Author.Needs.{needs}
+use Rattle.bits.proofs.octet_or_zero.Statement.{statement}
+use Rattle.bits.proofs.octet_or_zero.Tie as tie
+
+shared-slice-read-result : tie.Need-shared-slice-read-result
+shared-slice-read-result c = search needs
+
+returns : tie.Need-returns
+returns c = search needs
+
+returns-2 : tie.Need-returns-2
+returns-2 c = sym (List·getD-eq-default (c .before .args .run .now) 0 (c .if1 .left))
+
+pub octet-or-zero-spec : {M : Type 1} → statement M
+octet-or-zero-spec = tie.close (tie.spec shared-slice-read-result returns returns-2)

@@ -1,0 +1,18 @@
+-- Document 01, "What the reader takes" and "Section 7": bits are numbered from 0 within a packed run, the top bit of each octet first; a run
+-- is read in order from its first bit, so many bits at a time.
+use Prim.Native.Nat.{ℕ, zero, suc, _+_, _-_, _*_, _/_, _%_, _^_}
+use mathlib.Core.List.{List}
+use lib.ListN.{getD}
+
+-- Bit i of a run of octets, which is 0 past the run's end.
+unfoldable pub bitAt : List ℕ → ℕ → ℕ
+bitAt run i = getD run (i / 8) 0 / 2 ^ (7 - i % 8) % 2
+
+-- The number whose bits are the b bits from bit `at` on, the first of them counting most.
+unfoldable pub bitsAt : List ℕ → ℕ → ℕ → ℕ
+bitsAt run at zero = 0
+bitsAt run at (suc b) = bitsAt run at b * 2 + bitAt run (at + b)
+
+-- The octets that so many bits take: the last may have bits to spare.
+abbrev pub octetsOf : ℕ → ℕ
+octetsOf bits = (bits + 7) / 8

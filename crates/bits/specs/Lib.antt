@@ -1,0 +1,2 @@
+-- What the numbers in a run of bits are.
+pub mod Bits
