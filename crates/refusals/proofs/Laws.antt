@@ -1,0 +1,74 @@
+-- The laws of the refusals' numbers: no two refusals share one, and what C is given tells the refusal and its place.
+use mathlib.Core.Path.{_≡_, refl, sym, ap, _∙_}
+use mathlib.Core.List.{List, [], _∷_}
+use Prim.Native.Nat.{ℕ, _-_, _/_, _%_, _^_, _≤_, _<_}
+use native.Mathlib.Omega.{arith}
+use lib.ListN.{getD}
+use Rattle.refusals.specs.declared.Refusal.{Refusal}
+use Rattle.refusals.specs.declared.Why.{Why}
+use Rattle.refusals.specs.declared.Why.the-variants as Why
+use Rattle.refusals.specs.Refusals.{numberOf, codeOf}
+
+-- The numbers run from 1 to 19.
+pub numbered : (why : Why) → (1 ≤ numberOf why) × (numberOf why ≤ 19)
+numbered Why.TooLong = (omega arith, omega arith)
+numbered Why.Empty = (omega arith, omega arith)
+numbered Why.Cut = (omega arith, omega arith)
+numbered Why.NotGrib2 = (omega arith, omega arith)
+numbered Why.BadLength = (omega arith, omega arith)
+numbered Why.OutOfPlace = (omega arith, omega arith)
+numbered Why.NoEnd = (omega arith, omega arith)
+numbered Why.NoSuchField = (omega arith, omega arith)
+numbered Why.BadIdentification = (omega arith, omega arith)
+numbered Why.BadGrid = (omega arith, omega arith)
+numbered Why.BadProduct = (omega arith, omega arith)
+numbered Why.BadRepresentation = (omega arith, omega arith)
+numbered Why.BadBitmap = (omega arith, omega arith)
+numbered Why.BadPacking = (omega arith, omega arith)
+numbered Why.NoRoom = (omega arith, omega arith)
+numbered Why.ValueOutOfRange = (omega arith, omega arith)
+numbered Why.NoSuchPoint = (omega arith, omega arith)
+numbered Why.InputTooLong = (omega arith, omega arith)
+numbered Why.NotRebuildable = (omega arith, omega arith)
+
+-- The refusals in the order of their numbers.
+abbrev table : List Why
+table = Why.TooLong ∷ Why.Empty ∷ Why.Cut ∷ Why.NotGrib2 ∷ Why.BadLength ∷ Why.OutOfPlace ∷ Why.NoEnd ∷ Why.NoSuchField ∷ Why.BadIdentification ∷ Why.BadGrid ∷ Why.BadProduct ∷ Why.BadRepresentation ∷ Why.BadBitmap ∷ Why.BadPacking ∷ Why.NoRoom ∷ Why.ValueOutOfRange ∷ Why.NoSuchPoint ∷ Why.InputTooLong ∷ Why.NotRebuildable ∷ []
+
+named : (why : Why) → getD table (numberOf why - 1) Why.TooLong ≡ why
+named Why.TooLong = refl
+named Why.Empty = refl
+named Why.Cut = refl
+named Why.NotGrib2 = refl
+named Why.BadLength = refl
+named Why.OutOfPlace = refl
+named Why.NoEnd = refl
+named Why.NoSuchField = refl
+named Why.BadIdentification = refl
+named Why.BadGrid = refl
+named Why.BadProduct = refl
+named Why.BadRepresentation = refl
+named Why.BadBitmap = refl
+named Why.BadPacking = refl
+named Why.NoRoom = refl
+named Why.ValueOutOfRange = refl
+named Why.NoSuchPoint = refl
+named Why.InputTooLong = refl
+named Why.NotRebuildable = refl
+
+-- Two refusals with one number are the same refusal.
+pub same-number : (a b : Why) → numberOf a ≡ numberOf b → a ≡ b
+same-number a b e = sym (named a) ∙ ap (λ (n : ℕ). getD table (n - 1) Why.TooLong) e ∙ named b
+
+-- What C is given has the top bit set, and the number and the place come back from it.
+pub record Told (r : Refusal) : Type 0 where
+  pub isRefusal : codeOf r / 2 ^ 63 ≡ 1
+  pub number : codeOf r % 2 ^ 63 / 2 ^ 32 ≡ numberOf (r .why)
+  pub place : codeOf r % 2 ^ 32 ≡ r .place .0
+  pub fits : codeOf r < 2 ^ 64
+
+pub code-tells : (r : Refusal) → r .place .0 < 2 ^ 32 → Told r
+code-tells r h = told (numbered (r .why))
+  where
+    told : (1 ≤ numberOf (r .why)) × (numberOf (r .why) ≤ 19) → Told r
+    told n = record { isRefusal = omega arith; number = omega arith; place = omega arith; fits = omega arith }

@@ -1,0 +1,2 @@
+-- The laws of refusals that other proofs cite.
+pub mod Laws

@@ -1,0 +1,2 @@
+-- What the refusals' numbers are.
+pub mod Refusals
