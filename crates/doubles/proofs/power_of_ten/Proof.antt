@@ -1,0 +1,17 @@
+-- `doubles::power_of_ten` meets its contract: each entry of the table is computed.
+use borrow.Author.Needs.{needs}
+use Rattle.doubles.proofs.Powers.{ten-at}
+use Rattle.doubles.proofs.power_of_ten.Statement.{statement}
+use Rattle.doubles.proofs.power_of_ten.Tie as tie
+
+mul-result : tie.Need-mul-result
+mul-result c = search needs
+
+array-read-result : tie.Need-array-read-result
+array-read-result c = search needs
+
+returns : tie.Need-returns
+returns c = ten-at (c .args .n) (c .pre)
+
+pub power-of-ten-spec : {M : Type 1} → statement M
+power-of-ten-spec = tie.close (tie.spec mul-result array-read-result returns)

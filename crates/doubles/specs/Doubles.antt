@@ -1,0 +1,63 @@
+-- Document 01, "From X to a double": the double as IEEE 754's operations give it, and the question that rebuilds one.
+use Prim.Native.Nat.{ℕ, _^_}
+use mathlib.Core.Bool.{Bool, true, false, _&&_, cond}
+use lib.Dec.{leb}
+use lib.IntN.{ℤ, pos, negsuc}
+use lib.Ieee.{Float, fin, binary32, binary64, add, mul, div, ofInt, ofBits}
+use lib.Ieee.Scale.{finite}
+use Rattle.octets.specs.declared.Signed.{Signed}
+use Rattle.octets.specs.Numbers.{whole}
+use Rattle.refusals.specs.declared.Refusal.{Refusal}
+use Rattle.refusals.specs.declared.Why.the-variants as Why
+use Rattle.doubles.specs.declared.Packing.{Packing}
+use Rattle.doubles.specs.declared.Rebuilt.{Rebuilt}
+use Rattle.doubles.specs.declared.Rebuilt.the-variants.{Double, Refused}
+
+-- 2 ^ e, and 10 ^ n, which is 5 ^ n x 2 ^ n, each as the double that it is.
+abbrev pub powerOfTwo : ℤ → Float
+powerOfTwo e = fin false 1 e
+
+abbrev pub powerOfTen : ℕ → Float
+powerOfTen n = fin false (5 ^ n) (pos n)
+
+-- "The packing record keeps R, 2^E and 10^|D| as doubles, all exact." R is the single whose bits are r.
+abbrev pub packingOf : ℕ → Signed → Signed → Packing
+packingOf r e d =
+    record {
+      reference = ofBits binary32 r;
+      binary = powerOfTwo (whole e);
+      decimal = powerOfTen (d .size);
+      below = d .negative;
+    }
+
+-- "The value is R + X x 2^E rounded once to nearest, ties to even": the product is exact, so the sum alone rounds.
+unfoldable pub sumOf : Float → Float → ℕ → Float
+sumOf reference binary x = add binary64 reference (mul binary64 (ofInt binary64 (pos x)) binary)
+
+-- ".. then divided by 10^D (or multiplied by 10^-D) rounded once."
+unfoldable pub scaledBy : Bool → Float → Float → Float
+scaledBy false decimal sum = div binary64 sum decimal
+scaledBy true decimal sum = mul binary64 sum decimal
+
+-- The double of X by a packing record, and by R, E and D.
+abbrev pub rebuilt : Packing → ℕ → Float
+rebuilt p x = scaledBy (p .below) (p .decimal) (sumOf (p .reference) (p .binary) x)
+
+unfoldable pub valueOf : ℕ → Signed → Signed → ℕ → Float
+unfolding sumOf scaledBy
+valueOf r e d x = rebuilt (packingOf r e d) x
+
+-- X from 0 to 2,147,483,647.
+abbrev pub isPacked : ℤ → Bool
+isPacked (pos x) = leb x 2147483647
+isPacked (negsuc x) = false
+
+-- Refusal 19: R not finite, E or D past section 5's limits, or X out of its range. Its place is 0.
+abbrev pub isRebuildable : ℕ → Signed → Signed → Signed → Bool
+isRebuildable r e d x = finite (ofBits binary32 r) && leb (e .size) 127 && leb (d .size) 22 && isPacked (whole x)
+
+abbrev pub notRebuildable : Refusal
+notRebuildable = record { why = Why.NotRebuildable; place = record { 0 = 0 } }
+
+abbrev pub answerOf : ℕ → Signed → Signed → Signed → Rebuilt
+answerOf r e d x = cond (isRebuildable r e d x) (Double (valueOf r e d (x .size))) (Refused notRebuildable)

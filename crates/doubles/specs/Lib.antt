@@ -1,0 +1,2 @@
+-- What the rebuild of a double means.
+pub mod Doubles
