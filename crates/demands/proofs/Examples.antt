@@ -1,0 +1,22 @@
+-- The table of worked examples holds: each row is computed from the definitions.
+use mathlib.Core.Path.{refl}
+use lib.Ieee.{add, mul, div, ofInt, ofBits, toBits}
+use Rattle.octets.specs.Numbers.{numberAt}
+use Rattle.bits.specs.Bits.{bitAt, bitsAt}
+use Rattle.calendar.specs.Calendar.{isLeap, monthLength, tomorrow, daysAfter}
+use Rattle.doubles.specs.Doubles.{valueOf}
+use Rattle.demands.specs.Examples.{Examples}
+
+pub examples : Examples
+unfolding numberAt bitAt bitsAt isLeap monthLength tomorrow daysAfter valueOf add mul div ofInt ofBits toBits
+examples =
+    record {
+      minusOne = refl;
+      minusZero = refl;
+      minusTwo = refl;
+      firstTwelveBits = refl;
+      nextTwelveBits = refl;
+      sevenAndAHalf = refl;
+      aTenth = refl;
+      afterEightyFourHours = refl;
+    }

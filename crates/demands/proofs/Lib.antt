@@ -1,0 +1,2 @@
+-- The proofs of what is said of the whole reader.
+pub mod Examples

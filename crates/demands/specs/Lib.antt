@@ -1,0 +1,2 @@
+-- What is said of the whole reader.
+pub mod Examples

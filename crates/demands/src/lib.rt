@@ -1,0 +1,1 @@
+// Theorems alone: see specs/ for what is said of the whole reader.
