@@ -1,0 +1,27 @@
+# The targets for daily work. `tools/test` and `tools/sample` need no make.
+.DEFAULT_GOAL := help
+.PHONY: help sample test check dev fmt house clean
+
+help: ## List the targets.
+	@awk -F ':.*## ' '/^[a-z]+:.*## / { printf "  make %-8s %s\n", $$1, $$2 }' $(MAKEFILE_LIST)
+
+sample: ## Run the worked examples through the proved leaf layers.
+	@tools/sample
+
+test: ## Prove every crate, try every must-fail edit, and run every other test: the gate.
+	@tools/test
+
+check: ## Prove what has changed, and run the programs.
+	rt check
+
+dev: ## Check one crate in seconds, past its holes: make dev CRATE=bits.
+	rt dev $(CRATE) --allow-holes
+
+fmt: ## Lay out every file of Rattle and of proofs.
+	rt fmt
+
+house: ## Hold the tree to the rules of the house.
+	@python3 tests/house.py
+
+clean: ## Remove all that was built.
+	rm -rf target
