@@ -1,7 +1,7 @@
 -- The Gregorian calendar as days that follow one another, and the times of document 01's section 1: years 1900 to 2399, seconds 0 to 59.
 use Prim.Native.Nat.{ℕ, zero, suc, _+_, _*_, _/_, _%_, _≤_}
 use mathlib.Core.Bool.{Bool, not, _&&_, _||_, cond}
-use mathlib.Core.List.{List, [], _∷_}
+use mathlib.Core.List.{List, [], _∷_, _++_}
 use lib.Dec.{eqb, ltb, leb}
 use Rattle.octets.specs.Numbers.{octetAt, numberAt}
 use Rattle.calendar.specs.declared.Date.{Date}
@@ -98,30 +98,26 @@ octetsTime xs p =
 abbrev pub timeAt : List ℕ → ℕ → Reading
 timeAt xs p = cond (isTime (octetsTime xs p)) (Reading.At (octetsTime xs p)) Reading.NoTime
 
--- The 14 digits of a time, as one number and as characters.
+-- The 14 digits of a time, as one number.
 abbrev pub fourteenDigits : Time → ℕ
 fourteenDigits t = (((((t .date .year * 100 + t .date .month) * 100 + t .date .day) * 100 + t .hour) * 100 + t .minute) * 100) + t .second
 
-abbrev pub digitAt : ℕ → ℕ → ℕ
-digitAt n weight = 48 + n / weight % 10
+-- The same as characters: four digits of the year, two each of the rest. A digit is the octet of its character, 48 for "0".
+abbrev pub digit : ℕ → ℕ
+digit n = 48 + n % 10
+
+abbrev pub twoDigits : ℕ → List ℕ
+twoDigits n = digit (n / 10) ∷ digit n ∷ []
 
 abbrev pub digitsOf : Time → List ℕ
 digitsOf t =
-    digitAt (t .date .year) 1000
-    ∷ digitAt (t .date .year) 100
-    ∷ digitAt (t .date .year) 10
-    ∷ digitAt (t .date .year) 1
-    ∷ digitAt (t .date .month) 10
-    ∷ digitAt (t .date .month) 1
-    ∷ digitAt (t .date .day) 10
-    ∷ digitAt (t .date .day) 1
-    ∷ digitAt (t .hour) 10
-    ∷ digitAt (t .hour) 1
-    ∷ digitAt (t .minute) 10
-    ∷ digitAt (t .minute) 1
-    ∷ digitAt (t .second) 10
-    ∷ digitAt (t .second) 1
-    ∷ []
+    twoDigits (t .date .year / 100)
+    ++ twoDigits (t .date .year)
+    ++ twoDigits (t .date .month)
+    ++ twoDigits (t .date .day)
+    ++ twoDigits (t .hour)
+    ++ twoDigits (t .minute)
+    ++ twoDigits (t .second)
 
 -- Which of two times comes first, by their digits.
 abbrev pub ordered : Time → Time → Order

@@ -247,21 +247,21 @@ pub fn digits(time: Time) -> [u8; 14]
     ensures { λ r. ⌜ r ≡ digitsOf time ⌝ }
 {
     let date = time.date;
-    // Each digit by its weight, as a character.
+    let century = date.year / 100;
     [
-        (48 + date.year / 1000 % 10) as u8,
-        (48 + date.year / 100 % 10) as u8,
+        (48 + century / 10 % 10) as u8,
+        (48 + century % 10) as u8,
         (48 + date.year / 10 % 10) as u8,
-        (48 + date.year / 1 % 10) as u8,
+        (48 + date.year % 10) as u8,
         (48 + date.month / 10 % 10) as u8,
-        (48 + date.month / 1 % 10) as u8,
+        (48 + date.month % 10) as u8,
         (48 + date.day / 10 % 10) as u8,
-        (48 + date.day / 1 % 10) as u8,
+        (48 + date.day % 10) as u8,
         (48 + time.hour / 10 % 10) as u8,
-        (48 + time.hour / 1 % 10) as u8,
+        (48 + time.hour % 10) as u8,
         (48 + time.minute / 10 % 10) as u8,
-        (48 + time.minute / 1 % 10) as u8,
+        (48 + time.minute % 10) as u8,
         (48 + time.second / 10 % 10) as u8,
-        (48 + time.second / 1 % 10) as u8,
+        (48 + time.second % 10) as u8,
     ]
 }
