@@ -4,10 +4,11 @@ use Prim.Native.Nat.{ℕ, zero, suc, _+_, _-_, _*_, _≤_, _<_}
 use native.Mathlib.Omega.{arith}
 use borrow.Author.Tests.{ltb-true, ltb-false}
 use lib.Dec.{ltb}
+use Rattle.octets.proofs.Cases.{split}
 use Rattle.calendar.specs.declared.Date.{Date}
 use Rattle.calendar.specs.Calendar.{monthLength, tomorrow, daysAfter, DateInRange}
 use Rattle.calendar.specs.Count.{yearLength, daysBeforeYear, daysInMonths, dayNumber, RealDate}
-use Rattle.calendar.proofs.General.{split, comes-back, same-digits}
+use Rattle.calendar.proofs.General.{comes-back, same-digits}
 use Rattle.calendar.proofs.Years.{years-grow, year-more, days-before-year}
 use Rattle.calendar.proofs.Months.{month-bounds, months-grow, twelve-months, month-passed}
 

@@ -1,16 +1,11 @@
--- Laws that are not the calendar's own: cases by a test, orders that come back, counts that grow, and digits in pairs.
-use mathlib.Core.Path.{_≡_, refl}
-use mathlib.Core.Bool.{Bool, true, false}
+-- Laws that are not the calendar's own: orders that come back, counts that grow, and digits in pairs.
+use mathlib.Core.Path.{_≡_}
 use Prim.Native.Nat.{ℕ, zero, suc, _+_, _*_, _≤_, _<_, zero-le, suc-le-suc}
 use native.Mathlib.Nat.{le-refl, le-trans}
 use native.Mathlib.Omega.{arith}
 use borrow.Author.Tests.{ltb-true, ltb-false}
 use lib.Dec.{ltb}
-
--- A test is true or false, and each case has the equation in hand.
-pub split : {A : Type 0} (test : Bool) → (test ≡ true → A) → (test ≡ false → A) → A
-split true holds fails = holds refl
-split false holds fails = fails refl
+use Rattle.octets.proofs.Cases.{split}
 
 -- Where the smaller of two numbers has the smaller image, an order of the images is one of the numbers.
 pub comes-back : (m n x y : ℕ) → (n < m → y < x) → x ≤ y → m ≤ n

@@ -5,13 +5,13 @@ use Prim.Native.Nat.{ℕ, _+_, _-_, _*_, _/_, _<_}
 use native.Mathlib.Omega.{arith}
 use borrow.Author.Tests.{leb-true, ltb-true, ltb-false, lt-ltb, le-ltb}
 use lib.Dec.{leb, ltb}
+use Rattle.octets.proofs.Cases.{split}
 use Rattle.calendar.specs.declared.Time.{Time}
 use Rattle.calendar.specs.declared.Unit.{Unit}
 use Rattle.calendar.specs.declared.Reading.the-variants as Reading
 use Rattle.calendar.specs.declared.Later.the-variants as Later
 use Rattle.calendar.specs.declared.Order.the-variants as Order
 use Rattle.calendar.specs.Calendar.{octetsTime, timeAt, isTime, Gregorian, plus, secondOfDay, secondsIn, secondsAfter, fourteenDigits, ordered}
-use Rattle.calendar.proofs.General.{split}
 use Rattle.calendar.proofs.Tests.{time-is-gregorian}
 use Rattle.calendar.proofs.Days.{years-pass, in-range-is-real}
 use Rattle.calendar.proofs.Times.{gregorian-is-real, real-is-gregorian, secondNumber, seconds-count, earlier-time, later-time, same-second, same-time}

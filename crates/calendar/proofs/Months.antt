@@ -5,9 +5,10 @@ use Prim.Native.Nat.{ℕ, zero, suc, _+_, _-_, _*_, _≤_, _<_}
 use native.Mathlib.Numerals.{add-one}
 use native.Mathlib.Omega.{arith}
 use lib.Dec.{eqb}
+use Rattle.octets.proofs.Cases.{split}
 use Rattle.calendar.specs.Calendar.{isLeap, monthLength}
 use Rattle.calendar.specs.Count.{yearLength, daysInMonths}
-use Rattle.calendar.proofs.General.{split, comes-back, grows}
+use Rattle.calendar.proofs.General.{comes-back, grows}
 
 -- A month has 28 to 31 days.
 pub month-bounds : (year month : ℕ) → (28 ≤ monthLength year month) × (monthLength year month ≤ 31)

@@ -6,11 +6,11 @@ use Prim.Native.Nat.{ℕ, _≤_}
 use native.Mathlib.Omega.{arith}
 use borrow.Author.Tests.{leb-true, le-leb}
 use lib.Dec.{leb}
+use Rattle.octets.proofs.Cases.{split}
 use Rattle.calendar.specs.declared.Date.{Date}
 use Rattle.calendar.specs.declared.Time.{Time}
 use Rattle.calendar.specs.declared.Reading.the-variants as Reading
 use Rattle.calendar.specs.Calendar.{monthLength, octetsTime, timeAt, isDate, isTime, DateInRange, Gregorian}
-use Rattle.calendar.proofs.General.{split}
 
 -- The last of several bounds that are tested together holds, and so do those before it.
 bound : (others : Bool) (m n : ℕ) → (others && leb m n) ≡ true → (others ≡ true) × (m ≤ n)

@@ -5,12 +5,13 @@ use native.Mathlib.Nat.{div-div-eq-div-mul}
 use native.Mathlib.Omega.{arith}
 use borrow.Author.Tests.{ltb-true, ltb-false, leb-true, leb-false}
 use lib.Dec.{ltb, leb}
+use Rattle.octets.proofs.Cases.{split}
 use Rattle.calendar.specs.declared.Date.{Date}
 use Rattle.calendar.specs.declared.Time.{Time}
 use Rattle.calendar.specs.declared.Later.the-variants as Later
 use Rattle.calendar.specs.Calendar.{until2399, secondOfDay, secondsAfter, fourteenDigits, Gregorian}
 use Rattle.calendar.specs.Count.{dayNumber, RealDate}
-use Rattle.calendar.proofs.General.{split, comes-back, same-digits}
+use Rattle.calendar.proofs.General.{comes-back, same-digits}
 use Rattle.calendar.proofs.Days.{to-2399, past-2399, same-number, eightDigits, later-counts, earlier, same-date, in-range-is-real}
 
 -- A time of a real date of any year.

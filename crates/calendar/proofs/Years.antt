@@ -6,9 +6,10 @@ use native.Mathlib.Numerals.{add-one}
 use native.Mathlib.Omega.{arith}
 use borrow.Author.Tests.{eqb-true, eqb-false, ne-eqb}
 use lib.Dec.{eqb}
+use Rattle.octets.proofs.Cases.{split}
 use Rattle.calendar.specs.Calendar.{isLeap}
 use Rattle.calendar.specs.Count.{yearLength, daysBeforeYear}
-use Rattle.calendar.proofs.General.{split, grows}
+use Rattle.calendar.proofs.General.{grows}
 
 -- From one year to the next a quotient grows by 1 where the division leaves nothing, and else stays.
 by-4 : (year : ℕ) → (suc year + 3) / 4 ≡ (year + 3) / 4 + cond (eqb (year % 4) 0) 1 0

@@ -1,2 +1,3 @@
--- The laws of octets that other proofs cite.
+-- The laws of octets, and cases by a test, that other proofs cite.
+pub mod Cases
 pub mod Laws
