@@ -1,0 +1,2 @@
+-- What running a machine gives.
+pub mod Laws

@@ -1,0 +1,2 @@
+-- A machine that is run until it stops.
+pub mod Machine

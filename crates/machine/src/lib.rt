@@ -1,0 +1,1 @@
+// Definitions and theorems alone: a machine that is run until it stops, for the definitions of loops.
