@@ -1,0 +1,3 @@
+-- How messages tile a file.
+pub mod Tiling
+pub mod Heads

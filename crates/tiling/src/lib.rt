@@ -1,0 +1,202 @@
+// The messages of a file: what steps a to f of document 01's "Tiling a file" say of one, and the tiling of the whole file.
+ghost use mathlib.Core.Path.{_≡_};
+ghost use mathlib.Core.Bool.{cond};
+ghost use Prim.Native.Nat.{_-_, _≤_};
+ghost use lib.Dec.{ltb};
+ghost use lib.ListN.{length};
+ghost use Rattle.tiling.specs.Tiling.{headerAt, message, told, tiles, answered, outcome, check, find};
+use octets::FilePlace;
+use octets::OctetNumber;
+use refusals::Refusal;
+use refusals::Why;
+use walk::Located;
+use walk::Walked;
+
+// What steps a to e say of the message at a place: where its sections end, or the fault.
+pub enum Header {
+    Sections(FilePlace),
+    Bad(Refusal),
+}
+
+// What steps a to f say of it: how many fields, where the next message starts, and where the field lies that is looked for; or the fault.
+pub enum Message {
+    Passed {
+        count: usize,
+        next: FilePlace,
+        hit: Located,
+    },
+    Bad(Refusal),
+}
+
+// What the whole file holds: the counts, and where the field lies that is looked for; or the first fault.
+pub enum Tiles {
+    Tiled {
+        messages: usize,
+        fields: usize,
+        hit: Located,
+    },
+    Refused(Refusal),
+}
+
+pub enum Checked {
+    Counts { messages: usize, fields: usize },
+    Refused(Refusal),
+}
+
+pub enum Found {
+    At(Located),
+    Refused(Refusal),
+}
+
+fn bad(why: Why, place: FilePlace) -> Header
+    ensures { λ r. ⌜ r ≡ Header.Bad (record { why = why; place = place }) ⌝ }
+{
+    Header::Bad(Refusal { why, place })
+}
+
+// Steps a to e at `at`.
+pub fn header_at(file: &[u8], at: FilePlace) -> Header
+    requires { ⌜ at .0 ≤ length (now file) ⌝ }
+    ensures { λ r. ⌜ r ≡ headerAt (now (file .entry)) (at .0) ⌝ }
+{
+    let left = file.len() - at.0;
+    if left < 16 {
+        return bad(Why::Cut, at);
+    }
+    if octets::number_at(file, octets::place_of(at, OctetNumber(1)), 4) != 0x4752_4942 {
+        return bad(Why::NotGrib2, at);
+    }
+    if octets::number_at(file, octets::place_of(at, OctetNumber(8)), 1) != 2 {
+        return bad(Why::NotGrib2, at);
+    }
+    let length = octets::number_at(file, octets::place_of(at, OctetNumber(9)), 8) as usize;
+    if length < 20 {
+        return bad(Why::BadLength, at);
+    }
+    if left < length {
+        return bad(Why::Cut, at);
+    }
+    let end = FilePlace(at.0 + (length - 4));
+    if octets::number_at(file, end, 4) != 0x3737_3737 {
+        return bad(Why::NoEnd, at);
+    }
+    Header::Sections(end)
+}
+
+// Steps a to f at `at`, in search of the message's field `k`.
+pub fn message_at(file: &[u8], at: FilePlace, k: usize) -> Message
+    requires { ⌜ at .0 ≤ length (now file) ⌝ }
+    ensures { λ r. ⌜ r ≡ told k (message (now (file .entry)) (at .0)) ⌝ }
+{
+    match header_at(file, at) {
+        Header::Sections(end) => {
+            let start = FilePlace(at.0 + 16);
+            match walk::fields_in(file, start, end, k) {
+                Walked::Fields { count, hit } => {
+                    let next = FilePlace(end.0 + 4);
+                    Message::Passed { count, next, hit }
+                }
+                Walked::Bad(refusal) => Message::Bad(refusal),
+            }
+        }
+        Header::Bad(refusal) => Message::Bad(refusal),
+    }
+}
+
+// The number that field `k` has among those from field `past` on, or 0 where it lies before them.
+fn from_here(k: usize, past: usize) -> usize
+    ensures { λ r. ⌜ r ≡ k - past ⌝ }
+{
+    if past <= k { k - past } else { 0 }
+}
+
+// What was found before, where field `k` is among the first `past`, and else what was found last.
+fn first_found(k: usize, past: usize, before: Located, last: Located) -> Located
+    ensures { λ r. ⌜ r ≡ cond (ltb k past) before last ⌝ }
+{
+    if k < past { before } else { last }
+}
+
+// The messages of the file one after the other, in search of field `k`.
+fn tile(file: &[u8], k: usize) -> Tiles
+    ensures { λ r. ⌜ r ≡ answered k (tiles (now (file .entry))) ⌝ }
+{
+    let mut at = FilePlace(0);
+    let mut messages: usize = 0;
+    let mut fields: usize = 0;
+    let mut found = walk::nowhere();
+    while at.0 < file.len() {
+        match message_at(file, at, from_here(k, fields)) {
+            Message::Passed { count, next, hit } => {
+                found = first_found(k, fields, found, hit);
+                messages += 1;
+                fields += count;
+                at = next;
+            }
+            Message::Bad(refusal) => {
+                return Tiles::Refused(refusal);
+            }
+        }
+    }
+    Tiles::Tiled {
+        messages,
+        fields,
+        hit: found,
+    }
+}
+
+// The whole file, in search of field `k`: refusals 1 and 2 come first.
+fn read(file: &[u8], k: usize) -> Tiles
+    ensures { λ r. ⌜ r ≡ answered k (outcome (now (file .entry))) ⌝ }
+{
+    if 268_435_456 < file.len() {
+        return Tiles::Refused(Refusal {
+            why: Why::TooLong,
+            place: FilePlace(0),
+        });
+    }
+    if file.len() == 0 {
+        return Tiles::Refused(Refusal {
+            why: Why::Empty,
+            place: FilePlace(0),
+        });
+    }
+    tile(file, k)
+}
+
+// Checks a file: the counts of messages and fields, or refusal 1 to 7.
+pub fn check(file: &[u8]) -> Checked
+    ensures { λ r. ⌜ r ≡ check (now (file .entry)) ⌝ }
+{
+    match read(file, 0) {
+        Tiles::Tiled {
+            messages,
+            fields,
+            hit: _,
+        } => Checked::Counts { messages, fields },
+        Tiles::Refused(refusal) => Checked::Refused(refusal),
+    }
+}
+
+// Finds field `k`: where its sections start and the bitmap in force, or refusal 1 to 8.
+pub fn find(file: &[u8], k: usize) -> Found
+    ensures { λ r. ⌜ r ≡ find (now (file .entry)) k ⌝ }
+{
+    match read(file, k) {
+        Tiles::Tiled {
+            messages: _,
+            fields,
+            hit,
+        } => {
+            if k < fields {
+                Found::At(hit)
+            } else {
+                Found::Refused(Refusal {
+                    why: Why::NoSuchField,
+                    place: FilePlace(0),
+                })
+            }
+        }
+        Tiles::Refused(refusal) => Found::Refused(refusal),
+    }
+}
