@@ -1,0 +1,33 @@
+-- What C learns of a file from the one number that it is given: whether the file is accepted, and then both counts, or else the refusal and its
+-- place.
+use Prim.Native.Nat.{ℕ, _/_, _%_, _^_}
+use mathlib.Core.Path.{_≡_, ap, subst, _∙_}
+use mathlib.Core.List.{List}
+use native.Mathlib.Omega.{arith}
+use Rattle.refusals.specs.declared.Refusal.{Refusal}
+use Rattle.refusals.specs.Refusals.{codeOf}
+use Rattle.refusals.proofs.Laws.{Told, code-tells}
+use Rattle.tiling.specs.declared.Checked.the-variants as Checked
+use Rattle.tiling.specs.Tiling.{check}
+use Rattle.tiling.proofs.Bounds.{Small, check-bounded}
+use Rattle.skeptolyr.specs.Codes.{checkCode}
+
+-- The top bit of an accepted file's number is clear, and both counts come back by division and remainder.
+pub record Counted (code m n : ℕ) : Type 0 where
+  pub isAccepted : code / 2 ^ 63 ≡ 0
+  pub messages : code / 2 ^ 32 ≡ m
+  pub fields : code % 2 ^ 32 ≡ n
+
+module _ (file : List ℕ) where
+  pub accepted-tells : {m n : ℕ} → check file ≡ Checked.Counts m n → Counted (checkCode (check file)) m n
+  accepted-tells {m} {n} h =
+      let small : Small (Checked.Counts m n) = subst Small h (check-bounded file) in
+      rw h (record { isAccepted = omega arith; messages = omega arith; fields = omega arith })
+
+  -- The top bit of a refused file's number is set, and the refusal's number and its place come back.
+  pub refused-tells : {r : Refusal} → check file ≡ Checked.Refused r → (checkCode (check file) ≡ codeOf r) × Told r
+  refused-tells {r} h = let small : Small (Checked.Refused r) = subst Small h (check-bounded file) in (ap checkCode h, code-tells r (omega arith))
+
+-- No number says both: an accepted file and a refused one never have the same.
+pub never-both : (file other : List ℕ) {m n : ℕ} {r : Refusal} → check file ≡ Checked.Counts m n → check other ≡ Checked.Refused r → checkCode (check file) ≡ checkCode (check other) → ⊥
+never-both file other h i same = let told = refused-tells other i in omega (arith, accepted-tells file h .isAccepted, told .1 .isRefusal, same ∙ told .0)

@@ -1,0 +1,2 @@
+-- The numbers that C is given.
+pub mod Codes
