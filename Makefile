@@ -1,6 +1,6 @@
 # The targets for daily work. `tools/test` and `tools/sample` need no make.
 .DEFAULT_GOAL := help
-.PHONY: help sample test check dev fmt house clean
+.PHONY: help sample test check lib dev fmt house clean
 
 help: ## List the targets.
 	@awk -F ':.*## ' '/^[a-z]+:.*## / { printf "  make %-8s %s\n", $$1, $$2 }' $(MAKEFILE_LIST)
@@ -13,6 +13,9 @@ test: ## Prove every crate, try every must-fail edit, and run every other test: 
 
 check: ## Prove what has changed, and run the programs.
 	rt check
+
+lib: ## Prove and write target/staticlib/libskeptolyr.a, which C links with include/skeptolyr.h.
+	rt staticlib skeptolyr
 
 dev: ## Check one crate in seconds, past its holes: make dev CRATE=bits.
 	rt dev $(CRATE) --allow-holes

@@ -1,0 +1,82 @@
+"""Makes GRIB files from document 01 alone: sections by their octets, fields, grids, messages."""
+
+
+def number(value, octets):
+    return value.to_bytes(octets, 'big')
+
+
+def signed(value, octets):
+    """The sign in the top bit, the size in the rest."""
+    return number((1 << 8 * octets - 1 if value < 0 else 0) | abs(value), octets)
+
+
+def section(kind, body):
+    return number(5 + len(body), 4) + number(kind, 1) + body
+
+
+def time(year, month, day, hour, minute, second):
+    return number(year, 2) + bytes([month, day, hour, minute, second])
+
+
+def section1(reference, status=0):
+    """Identification: centre 34, the reference time in octets 13-19, the status in octet 20."""
+    return section(1, number(34, 2) + number(0, 2) + bytes([2, 1]) + bytes([1]) + reference + bytes([status, 1]))
+
+
+def section3(ni, nj, first, last, di, dj):
+    """Grid 3.0 on the sphere of earth code 6. Places are (latitude, longitude) in millionths of a degree."""
+    body = bytes([0]) + number(ni * nj, 4) + bytes([0, 0]) + number(0, 2)
+    body += bytes([6]) + b'\xff' * 15
+    body += number(ni, 4) + number(nj, 4) + number(0, 4) + b'\xff' * 4
+    body += signed(first[0], 4) + number(first[1], 4) + bytes([0x30]) + signed(last[0], 4) + number(last[1], 4)
+    body += number(di, 4) + number(dj, 4) + bytes([0])
+    return section(3, body)
+
+
+def product(category, parameter, surface, level, unit, forecast):
+    """Octets 6-34, which templates 4.0 and 4.8 share but for the template's number. A level is (factor, scaled level) or None."""
+    body = bytes([category, parameter, 2, 0, 31]) + number(0, 2) + bytes([0, unit]) + signed(forecast, 4) + bytes([surface])
+    body += b'\xff' * 5 if level is None else signed(level[0], 1) + number(level[1], 4)
+    return body + b'\xff' * 6
+
+
+def instant(*words):
+    """Section 4 by template 4.0."""
+    return section(4, number(0, 2) + number(0, 2) + product(*words))
+
+
+def interval(end, kind, unit, length, *words):
+    """Section 4 by template 4.8: the end, mean (0) or sum (1), and the interval's length with its unit."""
+    body = number(0, 2) + number(8, 2) + product(*words) + end + bytes([1]) + number(0, 4) + bytes([kind, 2, unit]) + number(length, 4)
+    return section(4, body + bytes([255]) + number(0, 4))
+
+
+def section5(count, reference, e, d, bits):
+    """Section 5 by template 5.0. R is given by its four octets."""
+    return section(5, number(count, 4) + number(0, 2) + reference + signed(e, 2) + signed(d, 2) + bytes([bits, 0]))
+
+
+def section6(indicator, bitmap=b''):
+    return section(6, bytes([indicator]) + bitmap)
+
+
+def section7(values, bits):
+    """Section 7 by template 7.0: each value in so many bits, the last octet filled with zeros."""
+    digits = ''.join(format(value, '0%db' % bits) for value in values) if bits else ''
+    digits += '0' * (-len(digits) % 8)
+    return section(7, bytes(int(digits[i:i + 8], 2) for i in range(0, len(digits), 8)))
+
+
+def message(*sections, discipline=0):
+    body = b''.join(sections)
+    return b'GRIB' + b'\xff\xff' + bytes([discipline, 2]) + number(16 + len(body) + 4, 8) + body + b'7777'
+
+
+def two_fields():
+    """Document 01's 276-octet file: 2 x 2 points, a bitmap and then 254, 12-bit values, a temperature and a sum of rain."""
+    zero = bytes(4)
+    return message(
+        section1(time(2017, 5, 15, 12, 0, 0)),
+        section3(2, 2, (36000000, 135000000), (35000000, 136000000), 1000000, 1000000),
+        instant(0, 0, 103, (0, 10), 1, 1), section5(2, zero, 0, 0, 12), section6(0, b'\xa0'), section7([291, 2748], 12),
+        interval(time(2017, 5, 15, 13, 0, 0), 1, 1, 1, 1, 8, 1, None, 1, 0), section5(2, zero, 0, 1, 12), section6(254), section7([5, 7], 12))
