@@ -1,0 +1,130 @@
+-- The theorem `refusals`: a file is refused by the first fault in document 01's order, and by no other; `check-refuses` says so of the question
+-- check. `one-refusal` says that there is only one, `either` that each file is refused or accepted, and `never-both` that none is both.
+use Prim.Native.Nat.{ℕ, _+_, _≤_}
+use mathlib.Core.Path.{_≡_, refl, ap, subst, _∙_}
+use mathlib.Core.List.{List, [], _++_}
+use mathlib.Core.Logic.{_⊎_, inl, inr, _↔_}
+use native.Mathlib.Omega.{arith}
+use lib.ListN.{length}
+use Rattle.refusals.specs.declared.Refusal.{Refusal}
+use Rattle.machine.specs.Machine.{go, stop, Trace, halts, steps}
+use Rattle.walk.specs.declared.Located.{Located}
+use Rattle.walk.specs.Walk as Walk
+use Rattle.walk.specs.Walk.{at, nowhere, Walking, Tiled, located, took, stepped}
+use Rattle.walk.specs.Stands as Stands
+use Rattle.walk.proofs.Laws as walk
+use Rattle.walk.proofs.Laws.{stands-only, Walks, walks, walk-trace, trace-walk}
+use Rattle.tiling.specs.declared.Header.the-variants as Header
+use Rattle.tiling.specs.declared.Checked.the-variants as Checked
+use Rattle.tiling.specs.Heads.{Heads}
+use Rattle.tiling.specs.Tiling.{largest, message, failed, met, Reading, Outcome, tiled, refused, fileStep, outcome, checked, check}
+use Rattle.tiling.proofs.Laws as reading
+use Rattle.tiling.proofs.Laws.{Entered, enters, enters-only, begun, step-met, Reads, reads, Whole, whole, whole-only}
+use Rattle.grammar.specs.Grammar.{Accepted}
+use Rattle.grammar.specs.Refusals as Refusals
+use Rattle.grammar.specs.Refusals.{Before, Passed, Faulty, Refused}
+use Rattle.grammar.proofs.Complete.{walkingAt, Goes, section-goes, message-goes, accepted-complete}
+use Rattle.grammar.proofs.Sound.{message-sound, accepted-sound}
+
+module _ {file : List ℕ} where
+  -- The walk steps along the sections that are passed.
+  passes : {s e q n : ℕ} {t : Tiled} → Passed file s e q n → ((l : Located) (fs : List Located) → Goes file e (walkingAt q n l fs) t) → Goes file e (walkingAt s 0 nowhere []) t
+  passes Refusals.Passed.start on = on nowhere []
+  passes {e} (Refusals.Passed.after {a} {b} {n} {m} p section inside allowed) on =
+      passes p
+      (λ l fs.
+      let w : Walking = walkingAt a n l fs in
+      section-goes file e section inside allowed (on (located file w m b) (took file w m b .fields)))
+
+  -- The walk that passes sections of the message at p and then meets a fault.
+  met-fault : {p e : ℕ} {w : Walking} {r : Refusal} → Heads file p (Header.Sections (at e)) → Passed file (p + 16) e (w .place) (w .after) → Goes file e w (Walk.refused r) → Faulty file p r
+  met-fault {p} {e} {w} heads before (halts h) = by (subst (Walks file e w) h (walks file e w))
+    where
+      by : {r : Refusal} → Walks file e w (stop (Walk.refused r)) → Faulty file p r
+      by (walk.bad stands) = Refusals.Faulty.section heads before stands
+  met-fault {p} {e} {w} heads before (steps h t) = by (subst (Walks file e w) h (walks file e w)) (λ after. met-fault heads after t)
+    where
+      by : {v : Walking} {r : Refusal} → Walks file e w (go v) → (Passed file (p + 16) e (v .place) (v .after) → Faulty file p r) → Faulty file p r
+      by (walk.on (Stands.next f i)) again = again (Refusals.Passed.after before (record { least = f .least; ends = refl; numbered = refl }) (f .room) i)
+
+  message-faulty : {p : ℕ} {r : Refusal} → message file p ≡ failed r → Faulty file p r
+  message-faulty {p} h = by (subst (Entered file p) h (enters file p))
+    where
+      by : {r : Refusal} → Entered file p (failed r) → Faulty file p r
+      by (reading.headless heads) = Refusals.Faulty.heading heads
+      by (reading.faulty {e} heads h) =
+          let w : Walking = walkingAt (p + 16) 0 nowhere [] in
+          met-fault heads Refusals.Passed.start (subst (Goes file e w) h (walk-trace file e w))
+
+  faulty-message : {p : ℕ} {r : Refusal} → Faulty file p r → message file p ≡ failed r
+  faulty-message {p} (Refusals.Faulty.heading heads) = enters-only file p (reading.headless heads)
+  faulty-message {p} (Refusals.Faulty.section {e} {q} {n} heads before stands) =
+      enters-only file p
+      (reading.faulty heads
+      (trace-walk file e
+      (passes before (λ l fs. halts (ap (stepped file (walkingAt q n l fs)) (stands-only file q e n stands))))))
+
+  -- The reading steps along the messages before p.
+  comes : {p : ℕ} {o : Outcome} → Before file p → ((m : ℕ) (fs : List Located) → Trace (fileStep file) (record { place = p; messages = m; fields = fs }) o) → Trace (fileStep file) begun o
+  comes Refusals.Before.start on = on 0 []
+  comes (Refusals.Before.after {a} {fs} before d) on = comes before (λ m gs. message-goes (record { place = a; messages = m; fields = gs }) d (on (m + 1) (gs ++ fs)))
+
+  refused-complete : {r : Refusal} → Refused file r → outcome file ≡ refused r
+  refused-complete (Refusals.Refused.too-long h) = whole-only file (reading.too-long h)
+  refused-complete (Refusals.Refused.empty h) = whole-only file (reading.empty h)
+  refused-complete (Refusals.Refused.message {p} some few before inside d) =
+      whole-only file
+      (reading.read some few
+      (comes before
+      (λ m fs.
+      let r : Reading = record { place = p; messages = m; fields = fs } in
+      halts (step-met file r inside ∙ ap (met r) (faulty-message d)))))
+
+  -- The reading that passes messages and then meets a fault.
+  met-refusal : {r : Reading} {f : Refusal} → 1 ≤ length file → length file ≤ largest → Before file (r .place) → Trace (fileStep file) r (refused f) → Refused file f
+  met-refusal {r} some few before (halts h) = by (subst (Reads file r) h (reads file r))
+    where
+      by : {f : Refusal} → Reads file r (stop (refused f)) → Refused file f
+      by (reading.bad inside h) = Refusals.Refused.message some few before inside (message-faulty h)
+  met-refusal {r} some few before (steps h t) = by (subst (Reads file r) h (reads file r)) (λ after. met-refusal some few after t)
+    where
+      by : {v : Reading} {f : Refusal} → Reads file r (go v) → (Before file (v .place) → Refused file f) → Refused file f
+      by (reading.on inside h) again = again (Refusals.Before.after before (message-sound h))
+
+  refused-sound : {r : Refusal} → Whole file (refused r) → Refused file r
+  refused-sound (reading.too-long h) = Refusals.Refused.too-long h
+  refused-sound (reading.empty h) = Refusals.Refused.empty h
+  refused-sound (reading.read some few t) = met-refusal some few Refusals.Before.start t
+
+  pub one-refusal : {r r′ : Refusal} → Refused file r → Refused file r′ → r ≡ r′
+  one-refusal {r} {r′} d d′ =
+      let given : outcome file ≡ refused r = refused-complete d in
+      let given′ : outcome file ≡ refused r′ = refused-complete d′ in
+      cc
+
+  pub never-both : {r : Refusal} {m : ℕ} {fs : List Located} → Refused file r → Accepted file m fs → ⊥
+  never-both {r} {m} {fs} d a =
+      let given : outcome file ≡ refused r = refused-complete d in
+      let given′ : outcome file ≡ tiled m fs = accepted-complete a in
+      let z : _≡_ {A = ℕ} 0 1 = cc in
+      omega arith
+
+module _ (file : List ℕ) where
+  -- A file is refused by r exactly when r is the first fault in document 01's order.
+  pub refusals : (r : Refusal) → (outcome file ≡ refused r) ↔ Refused file r
+  refusals r = (λ h. refused-sound (subst (Whole file) h (whole file)), refused-complete)
+
+  -- And so the question check refuses it.
+  pub check-refuses : (r : Refusal) → (check file ≡ Checked.Refused r) ↔ Refused file r
+  check-refuses r = (by (outcome file) (whole file), λ d. ap checked (refused-complete d))
+    where
+      by : (o : Outcome) → Whole file o → checked o ≡ Checked.Refused r → Refused file r
+      by (tiled m fs) w h = let z : _≡_ {A = ℕ} 0 1 = cc in absurd (omega arith)
+      by (refused f) w h = let same : f ≡ r = cc in subst (Refused file) same (refused-sound w)
+
+  pub either : ((r : Refusal) × Refused file r) ⊎ ((m : ℕ) × (fs : List Located) × Accepted file m fs)
+  either = by (outcome file) (whole file)
+    where
+      by : (o : Outcome) → Whole file o → ((r : Refusal) × Refused file r) ⊎ ((m : ℕ) × (fs : List Located) × Accepted file m fs)
+      by (refused r) w = inl (r, refused-sound w)
+      by (tiled m fs) w = inr (m, fs, accepted-sound w)
