@@ -5,7 +5,7 @@
 help: ## List the targets.
 	@awk -F ':.*## ' '/^[a-z]+:.*## / { printf "  make %-8s %s\n", $$1, $$2 }' $(MAKEFILE_LIST)
 
-sample: ## Run the worked examples through the proved leaf layers.
+sample: ## Check the sample files, and ask the worked examples of the proved leaf layers.
 	@tools/sample
 
 test: ## Prove every crate, try every must-fail edit, and run every other test: the gate.

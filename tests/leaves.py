@@ -222,6 +222,7 @@ def main():
                 out.write(text)
         return 0
     if not os.path.exists(os.path.join(TOP, 'target', 'bin', 'ask')):
+        print('proving and compiling the program ask', file=sys.stderr, flush=True)
         subprocess.run(['rt', 'check', 'ask'], cwd=TOP, check=True, stdout=subprocess.DEVNULL)
     program = [os.path.join(TOP, 'tools', 'program'), 'ask']
     shown = ['%-52s %s' % (words, answer) for (words, _, _), answer in zip(examples, answers(program, [record for _, record, _ in examples]))]
@@ -233,7 +234,7 @@ def main():
         results.append(given.read() == sample and wanted.read() == expected)
     print('the sample of the program ask: %s' % ('as made here' if results[0] else 'not as made here; run leaves.py --write'))
     with open(os.path.join(TOP, 'README.md'), encoding='utf-8') as readme:
-        results.append('```\n%s\n```' % '\n'.join(shown) in readme.read())
+        results.append('\n'.join(shown) in readme.read())
     print('the README: %s' % ('shows what the sample prints' if results[1] else 'does not show what the sample prints'))
     makers = {'rebuild': random_rebuild, 'bits': random_bits, 'later': random_later, 'order': random_order}
     results += [compare(program, name, makers[name], count) for name, count in CASES.items()]

@@ -6,27 +6,47 @@ use octets::FilePlace;
 
 // Why a question is refused, in the order of document 01's table.
 pub enum Why {
+    // The file is over 268,435,456 octets.
     TooLong,
+    // The file has no octet.
     Empty,
+    // The file ends inside a message.
     Cut,
+    // No message of GRIB edition 2 starts here.
     NotGrib2,
+    // A message's or a section's length cannot be right.
     BadLength,
+    // A section stands where it is not allowed, or a field is not finished.
     OutOfPlace,
+    // A message does not close with 7777.
     NoEnd,
+    // The field's number is not below the field count.
     NoSuchField,
+    // Section 1 is not one that is taken.
     BadIdentification,
+    // Section 3 is not one that is taken.
     BadGrid,
+    // Section 4 is not one that is taken.
     BadProduct,
+    // Section 5 is not one that is taken.
     BadRepresentation,
+    // Section 6 is not one that is taken, or other points are present than are packed.
     BadBitmap,
+    // Section 7 does not hold what section 5 says: its groups or its length are wrong.
     BadPacking,
+    // The field does not fit into what was lent from the start index on.
     NoRoom,
+    // An integer that is unpacked is below 0 or above 2,147,483,647.
     ValueOutOfRange,
+    // The point's number is not below the point count.
     NoSuchPoint,
+    // A program's input is over 65,536 octets.
     InputTooLong,
+    // R is not finite, or E, D or X is out of its range.
     NotRebuildable,
 }
 
+// A refusal: why, and where in the file.
 pub struct Refusal {
     pub why: Why,
     pub place: FilePlace,
