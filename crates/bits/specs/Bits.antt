@@ -1,5 +1,5 @@
--- Document 01, "What the reader takes" and "Section 7": bits are numbered from 0 within a packed run, the top bit of each octet first; a run
--- is read in order from its first bit, so many bits at a time.
+-- Document 01, "What the reader takes" and "Section 7": a packed run is one row of bits, counted from 0, in which every octet gives its top bit
+-- first; the numbers in it lie one behind the other.
 use Prim.Native.Nat.{ℕ, zero, suc, _+_, _-_, _*_, _/_, _%_, _^_}
 use mathlib.Core.List.{List}
 use lib.ListN.{getD}

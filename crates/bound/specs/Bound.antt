@@ -29,8 +29,8 @@ exactS r e x = times2^ 149 (ofBits binary32 r) +ℤ pos (x * 2 ^ raised 149 (who
 abbrev pub writtenV : Float → ℤ
 writtenV v = times2^ 1074 v
 
--- For D at least 0: 2^p |V x 2^149 x 10^D - S x 2^1074| is at most |S| x 2^1074. For D below 0 the power of ten stands with S instead, on
--- both sides. Demand 3 has p = 51.
+-- How near V / 2^1074 is to the exact fraction, both sides multiplied out: 2^p times |V x 2^149 x 10^D - S x 2^1074| is no more than
+-- |S| x 2^1074. Where D is below 0 its power of ten multiplies S, on both sides. Demand 3 has p = 51.
 abbrev pub Near : ℕ → Bool → ℕ → ℤ → ℤ → Type 0
 Near p false d v s = 2 ^ p * natAbs (v *ℤ pos (2 ^ 149 * 10 ^ d) -ℤ s *ℤ pos (2 ^ 1074)) ≤ natAbs s * 2 ^ 1074
 Near p true d v s = 2 ^ p * natAbs (v *ℤ pos (2 ^ 149) -ℤ s *ℤ pos (10 ^ d * 2 ^ 1074)) ≤ natAbs s * (10 ^ d * 2 ^ 1074)

@@ -56,7 +56,7 @@ secondsIn Unit.Minute = 60
 secondsIn Unit.Hour = 3600
 secondsIn Unit.Day = 86400
 
--- "No time passes 2399."
+-- Document 01, "Section 4": a sum that leads past the last year that is taken is no time.
 abbrev pub until2399 : Time → Later
 until2399 t = cond (leb (t .date .year) 2399) (Later.At t) Later.Passes2399
 
@@ -64,7 +64,7 @@ until2399 t = cond (leb (t .date .year) 2399) (Later.At t) Later.Passes2399
 abbrev pub plus : Time → ℕ → declaredUnit.Unit → Later
 plus t count unit = until2399 (secondsAfter (count * secondsIn unit) t)
 
--- "A Gregorian time, years 1900 to 2399, seconds 0 to 59", as a test and as what it tells.
+-- Document 01, "Section 1": which times are taken, as a test and as what it tells. There is no leap second.
 abbrev pub isDate : Date → Bool
 isDate d = leb 1900 (d .year) && leb (d .year) 2399 && leb 1 (d .month) && leb (d .month) 12 && leb 1 (d .day) && leb (d .day) (monthLength (d .year) (d .month))
 

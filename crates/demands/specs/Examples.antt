@@ -27,16 +27,16 @@ abbrev may : ℕ → ℕ → Time
 may day hour = record { date = date 2017 5 day; hour = hour; minute = 0; second = 0 }
 
 pub record Examples : Type 0 where
-  -- "0x8001 is -1; 0x8000 is 0; 0x82 is -2."
+  -- Sign and size, in two octets and in one. A set sign alone is zero.
   pub minusOne : signedIn (0x80 ∷ 0x01 ∷ []) 2 ≡ negℤ (pos 1)
   pub minusZero : signedIn (0x80 ∷ 0x00 ∷ []) 2 ≡ pos 0
   pub minusTwo : signedIn (0x82 ∷ []) 1 ≡ negℤ (pos 2)
-  -- "Octets 12 3A BC at 12 bits: 291, 2748."
+  -- Three octets hold two numbers of 12 bits.
   pub firstTwelveBits : bitsAt (0x12 ∷ 0x3a ∷ 0xbc ∷ []) 0 12 ≡ 291
   pub nextTwelveBits : bitsAt (0x12 ∷ 0x3a ∷ 0xbc ∷ []) 12 12 ≡ 2748
-  -- "R 1.5, E 1, D 0, X 3: 7.5." 1.5 is the single 3FC00000, and 7.5 the double 401E000000000000.
+  -- R 1.5, E 1, D 0 and X 3 make 7.5. The single 1.5 is 3FC00000, and the double 7.5 is 401E000000000000.
   pub sevenAndAHalf : valueOf 0x3fc0_0000 (plain 1) (plain 0) 3 ≡ ofBits binary64 0x401e_0000_0000_0000
-  -- "R 0, E 0, D 1, X 1: bits 3FB999999999999A."
+  -- R 0, E 0, D 1 and X 1 make the double nearest to a tenth.
   pub aTenth : toBits binary64 (valueOf 0 (plain 0) (plain 1) 1) ≡ 0x3fb9_9999_9999_999a
-  -- "2017-05-15 12:00 + 84 hours: 2017-05-19 00:00."
+  -- 84 hours after noon of 15 May 2017 the 19th begins.
   pub afterEightyFourHours : plus (may 15 12) 84 Unit.Hour ≡ Later.At (may 19 0)

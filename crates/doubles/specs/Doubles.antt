@@ -20,7 +20,7 @@ powerOfTwo e = fin false 1 e
 abbrev pub powerOfTen : ℕ → Float
 powerOfTen n = fin false (5 ^ n) (pos n)
 
--- "The packing record keeps R, 2^E and 10^|D| as doubles, all exact." R is the single whose bits are r.
+-- The packing record of R, E and D. Each of its three numbers is a double without rounding; R is the single whose bits are r.
 abbrev pub packingOf : ℕ → Signed → Signed → Packing
 packingOf r e d =
     record {
@@ -30,11 +30,11 @@ packingOf r e d =
       below = d .negative;
     }
 
--- "The value is R + X x 2^E rounded once to nearest, ties to even": the product is exact, so the sum alone rounds.
+-- R + X x 2^E. The product is exact, so that only the sum rounds, once, as IEEE 754 does by default: to nearest, ties to even.
 unfoldable pub sumOf : Float → Float → ℕ → Float
 sumOf reference binary x = add binary64 reference (mul binary64 (ofInt binary64 (pos x)) binary)
 
--- ".. then divided by 10^D (or multiplied by 10^-D) rounded once."
+-- The sum over 10^D, which rounds once more. Where D is below 0 that is a product with 10^|D|.
 unfoldable pub scaledBy : Bool → Float → Float → Float
 scaledBy false decimal sum = div binary64 sum decimal
 scaledBy true decimal sum = mul binary64 sum decimal

@@ -74,7 +74,7 @@ pub data Messages (file : List ℕ) : ℕ → ℕ → List Located → Type 0 wh
   none : Messages file (length file) 0 []
   next : {a b m : ℕ} {fs gs : List Located} → Message file a b fs → Messages file b m gs → Messages file a (m + 1) (fs ++ gs)
 
--- "A file of 1 to 268,435,456 octets is accepted, and no other": with m messages and these fields.
+-- A file that is accepted, with m messages and these fields: it is not empty, not too large, and all of it is messages.
 pub record Accepted (file : List ℕ) (m : ℕ) (fs : List Located) : Type 0 where
   pub some : 1 ≤ length file
   pub few : length file ≤ largest

@@ -1,4 +1,5 @@
--- Document 01, "What the reader takes": octets are numbered from 1 within a section, bits from 0 within a packed run, file places from 0.
+-- Document 01, "What the reader takes": three ways to count. An octet of a section has a number from 1 on; a bit of a run and a place in the
+-- file are counted from 0.
 -- In the code each kind of place has a type of its own; here each is the number that it holds.
 use Prim.Native.Nat.{ℕ, _+_, _-_, _*_, _/_}
 

@@ -1,4 +1,4 @@
--- Document 01, "Refusals by number".
+-- Document 01, "Refusals by number": the number that each refusal has, and what C is given for it.
 use Prim.Native.Nat.{ℕ, _+_, _*_, _^_}
 use Rattle.refusals.specs.declared.Why.{Why}
 use Rattle.refusals.specs.declared.Why.the-variants as Why

@@ -1,5 +1,5 @@
--- Document 01, "What the reader takes": "one 64-bit number answers: messages x 2^32 + fields, or decode's point count; a refusal is
--- 2^63 + number x 2^32 + place."
+-- Document 01, "What the reader takes": the one number that answers C. The counts of check share it, 32 bits each, messages on top; the top bit
+-- says that it is a refusal.
 use Prim.Native.Nat.{ℕ, _+_, _*_, _^_}
 use Rattle.refusals.specs.Refusals.{codeOf}
 use Rattle.tiling.specs.declared.Checked.{Checked}

@@ -93,7 +93,7 @@ abbrev pub met : Reading → Message → Next Reading Outcome
 met r (passed q fields) = go (record { place = q; messages = r .messages + 1; fields = r .fields ++ fields })
 met r (failed f) = stop (refused f)
 
--- "The next message starts where the last ended; a file ends where a message ends."
+-- Messages follow one another without a gap, and the last ends with the file.
 abbrev pub fileStep : List ℕ → Reading → Next Reading Outcome
 fileStep file r = cond (ltb (r .place) (length file)) (met r (message file (r .place))) (stop (tiled (r .messages) (r .fields)))
 

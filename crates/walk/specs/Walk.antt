@@ -27,7 +27,7 @@ at p = record { 0 = p }
 abbrev pub refusal : Why → ℕ → Refusal
 refusal why p = record { why = why; place = at p }
 
--- "Allowed: 1 once, then one or more grids. A grid is section 3 followed by one or more fields. A field is 4, 5, 6, 7." Section 0 comes first.
+-- Which number may follow which: 0 first, then 1, then 3 and 4 to 7 in turn; behind 7 the next field or the next grid begins.
 abbrev pub follows : ℕ → ℕ → Bool
 follows after n =
     cond (eqb after 0) (eqb n 1)
@@ -46,8 +46,9 @@ lengthAt file p = numberAt file (placeOf p 1) 4
 abbrev pub kindAt : List ℕ → ℕ → ℕ
 kindAt file p = octetAt file (placeOf p 5)
 
--- "At each: fewer than 5 octets left before them, a length under 5, or one that runs into them: 5; a number not allowed here: 6. At the end,
--- anything but a finished field just before it: 6." The sections end at e; `after` is the number of the section before p.
+-- What stands at p, where the sections end at e and `after` is the number of the section before. At the end a field must be finished, else 6.
+-- Before it, there must be room for a section's head, and the length must be one that holds the head and ends by e, else 5; and the number
+-- must be one that may follow, else 6.
 unfoldable pub sectionAt : List ℕ → ℕ → ℕ → ℕ → Section
 sectionAt file p e after =
     cond (eqb (e - p) 0)
@@ -59,8 +60,8 @@ sectionAt file p e after =
     (Section.Next (kindAt file p) (at (p + lengthAt file p)))
     (Section.Bad (refusal Why.OutOfPlace p))))))
 
--- Document 01, "Section 6": 254 "uses the latest indicator-0 bitmap since the last section 3". A section 6 from p up to q has an indicator in
--- octet 6 where it is that long.
+-- Document 01, "Section 6": the bitmap that indicator 254 refers to is the last one in its grid. A section 6 from p up to q has one where octet
+-- 6, its indicator, is there and is 0.
 abbrev pub bitmapBehind : List ℕ → Bitmap → ℕ → ℕ → Bitmap
 bitmapBehind file bitmap p q = cond (leb 6 (q - p) && eqb (octetAt file (placeOf p 6)) 0) (Bitmap.At (at p)) bitmap
 
