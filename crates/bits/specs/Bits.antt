@@ -2,11 +2,11 @@
 -- first; the numbers in it lie one behind the other.
 use Prim.Native.Nat.{ℕ, zero, suc, _+_, _-_, _*_, _/_, _%_, _^_}
 use mathlib.Core.List.{List}
-use lib.ListN.{getD}
+use Rattle.octets.specs.Numbers.{octetAt}
 
 -- Bit i of a run of octets, which is 0 past the run's end.
 unfoldable pub bitAt : List ℕ → ℕ → ℕ
-bitAt run i = getD run (i / 8) 0 / 2 ^ (7 - i % 8) % 2
+bitAt run i = octetAt run (i / 8) / 2 ^ (7 - i % 8) % 2
 
 -- The number whose bits are the b bits from bit `at` on, the first of them counting most.
 unfoldable pub bitsAt : List ℕ → ℕ → ℕ → ℕ

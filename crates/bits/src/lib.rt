@@ -1,8 +1,8 @@
 // The numbers of b bits in a run of octets, top bit first, and how many octets a run of them takes.
 ghost use mathlib.Core.Path.{_≡_};
 ghost use Prim.Native.Nat.{_+_, _-_, _*_, _/_, _%_, _^_, _≤_, _<_};
-ghost use lib.ListN.{length, getD};
-ghost use Rattle.octets.specs.Numbers.{numberAt};
+ghost use lib.ListN.{length};
+ghost use Rattle.octets.specs.Numbers.{octetAt, numberAt};
 ghost use Rattle.bits.specs.Bits.{bitAt, bitsAt, octetsOf};
 use octets::BitPlace;
 
@@ -39,7 +39,7 @@ fn cut(window: u64, past: u32, b: u32) -> u32
 
 // An octet of a run, and 0 past its end.
 fn octet_or_zero(run: &[u8], i: usize) -> u8
-    ensures { λ r. ⌜ r ≡ getD (now (run .entry)) i 0 ⌝ }
+    ensures { λ r. ⌜ r ≡ octetAt (now (run .entry)) i ⌝ }
 {
     if i < run.len() { run[i] } else { 0 }
 }

@@ -1,28 +1,33 @@
 -- The theorem `refusals`: a file is refused by the first fault in document 01's order, and by no other; `check-refuses` says so of the question
--- check. `one-refusal` says that there is only one, `either` that each file is refused or accepted, and `never-both` that none is both.
+-- check, and `find-refuses` of the question find. `one-refusal` says that there is only one, `either` that each file is refused or accepted, and `never-both` that none is both.
 use Prim.Native.Nat.{ℕ, _+_, _≤_}
 use mathlib.Core.Path.{_≡_, refl, ap, subst, _∙_}
 use mathlib.Core.List.{List, [], _++_}
+use mathlib.Core.Bool.{Bool, true, false, cond}
 use mathlib.Core.Logic.{_⊎_, inl, inr, _↔_}
 use native.Mathlib.Omega.{arith}
-use lib.ListN.{length}
+use borrow.Author.Tests.{le-ltb, ltb-false}
+use lib.Dec.{ltb}
+use lib.ListN.{length, getD}
 use Rattle.refusals.specs.declared.Refusal.{Refusal}
+use Rattle.refusals.specs.declared.Why.the-variants as Why
 use Rattle.machine.specs.Machine.{go, stop, Trace, halts, steps}
 use Rattle.walk.specs.declared.Located.{Located}
 use Rattle.walk.specs.Walk as Walk
-use Rattle.walk.specs.Walk.{at, nowhere, Walking, Tiled, located, took, stepped}
+use Rattle.walk.specs.Walk.{at, refusal, nowhere, Walking, Tiled, located, took, stepped}
 use Rattle.walk.specs.Stands as Stands
 use Rattle.walk.proofs.Laws as walk
 use Rattle.walk.proofs.Laws.{stands-only, Walks, walks, walk-trace, trace-walk}
 use Rattle.tiling.specs.declared.Header.the-variants as Header
 use Rattle.tiling.specs.declared.Checked.the-variants as Checked
+use Rattle.tiling.specs.declared.Found.the-variants as Found
 use Rattle.tiling.specs.Heads.{Heads}
-use Rattle.tiling.specs.Tiling.{largest, message, failed, met, Reading, Outcome, tiled, refused, fileStep, outcome, checked, check}
+use Rattle.tiling.specs.Tiling.{largest, message, failed, met, Reading, Outcome, tiled, refused, fileStep, outcome, checked, check, found, find}
 use Rattle.tiling.proofs.Laws as reading
 use Rattle.tiling.proofs.Laws.{Entered, enters, enters-only, begun, step-met, Reads, reads, Whole, whole, whole-only}
 use Rattle.grammar.specs.Grammar.{Accepted}
 use Rattle.grammar.specs.Refusals as Refusals
-use Rattle.grammar.specs.Refusals.{Before, Passed, Faulty, Refused}
+use Rattle.grammar.specs.Refusals.{Before, Passed, Faulty, Refused, NotFound}
 use Rattle.grammar.proofs.Complete.{walkingAt, Goes, section-goes, message-goes, accepted-complete}
 use Rattle.grammar.proofs.Sound.{message-sound, accepted-sound}
 
@@ -121,6 +126,22 @@ module _ (file : List ℕ) where
       by : (o : Outcome) → Whole file o → checked o ≡ Checked.Refused r → Refused file r
       by (tiled m fs) w h = let z : _≡_ {A = ℕ} 0 1 = cc in absurd (omega arith)
       by (refused f) w h = let same : f ≡ r = cc in subst (Refused file) same (refused-sound w)
+
+  -- The question find refuses field k so too, and else only where there is no such field.
+  pub find-refuses : (k : ℕ) (r : Refusal) → (find file k ≡ Found.Refused r) ↔ NotFound file k r
+  find-refuses k r = (by (outcome file) (whole file), given)
+    where
+      by-count : (b : Bool) {m : ℕ} (fs : List Located) → ltb k (length fs) ≡ b → Accepted file m fs → cond b (Found.At (getD fs k nowhere)) (Found.Refused (refusal Why.NoSuchField 0)) ≡ Found.Refused r → NotFound file k r
+      by-count true fs i a h = let z : _≡_ {A = ℕ} 0 1 = cc in absurd (omega arith)
+      by-count false fs i a h = let same : refusal Why.NoSuchField 0 ≡ r = cc in subst (NotFound file k) same (Refusals.NotFound.no-such-field a (ltb-false _ _ i))
+
+      by : (o : Outcome) → Whole file o → found k o ≡ Found.Refused r → NotFound file k r
+      by (tiled m fs) w h = by-count (ltb k (length fs)) fs refl (accepted-sound w) h
+      by (refused f) w h = let same : f ≡ r = cc in Refusals.NotFound.in-file (subst (Refused file) same (refused-sound w))
+
+      given : {r : Refusal} → NotFound file k r → find file k ≡ Found.Refused r
+      given (Refusals.NotFound.in-file d) = ap (found k) (refused-complete d)
+      given (Refusals.NotFound.no-such-field {fs} a few) = ap (found k) (accepted-complete a) ∙ rw (le-ltb k (length fs) few)
 
   pub either : ((r : Refusal) × Refused file r) ⊎ ((m : ℕ) × (fs : List Located) × Accepted file m fs)
   either = by (outcome file) (whole file)

@@ -14,7 +14,7 @@ use Rattle.walk.specs.Stands.{Stands}
 use Rattle.tiling.specs.declared.Header.the-variants as Header
 use Rattle.tiling.specs.Tiling.{largest}
 use Rattle.tiling.specs.Heads.{Heads}
-use Rattle.grammar.specs.Grammar.{Section, Message}
+use Rattle.grammar.specs.Grammar.{Section, Message, Accepted}
 
 -- Messages tile the file from its start up to p.
 pub data Before (file : List ℕ) : ℕ → Type 0 where
@@ -36,3 +36,8 @@ pub data Refused (file : List ℕ) : Refusal → Type 0 where
   too-long : largest < length file → Refused file (refusal Why.TooLong 0)
   empty : length file ≡ 0 → Refused file (refusal Why.Empty 0)
   message : {p : ℕ} {r : Refusal} → 1 ≤ length file → length file ≤ largest → Before file p → p < length file → Faulty file p r → Refused file r
+
+-- Field k is not found: the file is refused, or, behind that, it is accepted and has no more than k fields.
+pub data NotFound (file : List ℕ) (k : ℕ) : Refusal → Type 0 where
+  in-file : {r : Refusal} → Refused file r → NotFound file k r
+  no-such-field : {m : ℕ} {fs : List Located} → Accepted file m fs → length fs ≤ k → NotFound file k (refusal Why.NoSuchField 0)
