@@ -15,7 +15,7 @@ fn push(number: u64, octet: u8) -> u64
 }
 
 // Eight octets as one number. Written as one chain, it compiles to one load and one byte swap.
-fn eight(run: &[u8], from: usize) -> u64
+pub fn eight(run: &[u8], from: usize) -> u64
     requires { ⌜ from + 8 ≤ length (now run) ⌝ }
     ensures { λ r. ⌜ r ≡ numberAt (now (run .entry)) from 8 ⌝ }
 {

@@ -1,12 +1,12 @@
 -- The test of a date holds exactly for the dates in range, that of a time exactly for the Gregorian times, and so are octets read.
-use mathlib.Core.Path.{_≡_, refl, _∙_}
+use mathlib.Core.Path.{_≡_, _∙_}
 use mathlib.Core.Bool.{Bool, true, false, _&&_}
 use mathlib.Core.List.{List}
 use Prim.Native.Nat.{ℕ, _≤_}
 use native.Mathlib.Omega.{arith}
 use borrow.Author.Tests.{leb-true, le-leb}
 use lib.Dec.{leb}
-use Rattle.octets.proofs.Cases.{split}
+use Rattle.octets.proofs.Cases.{split, both}
 use Rattle.calendar.specs.declared.Date.{Date}
 use Rattle.calendar.specs.declared.Time.{Time}
 use Rattle.calendar.specs.declared.Reading.the-variants as Reading
@@ -14,8 +14,7 @@ use Rattle.calendar.specs.Calendar.{monthLength, octetsTime, timeAt, isD
 
 -- The last of several bounds that are tested together holds, and so do those before it.
 bound : (others : Bool) (m n : ℕ) → (others && leb m n) ≡ true → (others ≡ true) × (m ≤ n)
-bound true m n e = (refl, leb-true m n e)
-bound false m n e = let impossible : _≡_ {A = ℕ} 0 1 = cc in absurd (omega arith)
+bound others m n e = let tests = both others (leb m n) e in (tests .0, leb-true m n (tests .1))
 
 -- A date or a time that passes its test is in range.
 pub date-in-range : (d : Date) → isDate d ≡ true → DateInRange d

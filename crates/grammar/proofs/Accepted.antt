@@ -10,8 +10,9 @@ use borrow.Author.Tests.{lt-ltb, ltb-true}
 use lib.Dec.{ltb}
 use lib.ListN.{length, getD}
 use Rattle.refusals.specs.declared.Why.the-variants as Why
+use Rattle.refusals.specs.Refusals.{refusal}
 use Rattle.walk.specs.declared.Located.{Located}
-use Rattle.walk.specs.Walk.{refusal, nowhere}
+use Rattle.walk.specs.Walk.{nowhere}
 use Rattle.tiling.specs.declared.Checked.the-variants as Checked
 use Rattle.tiling.specs.declared.Found.the-variants as Found
 use Rattle.tiling.specs.Tiling.{Outcome, tiled, refused, outcome, checked, check, found, find}

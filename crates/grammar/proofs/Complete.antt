@@ -7,13 +7,14 @@ use mathlib.Core.Bool.{true}
 use native.Mathlib.Nat.{zero-add}
 use native.Mathlib.Omega.{arith}
 use lib.ListN.{length}
+use Rattle.octets.specs.Places.{at}
 use Rattle.machine.specs.Machine.{stop, Trace, halts, steps}
 use Rattle.walk.specs.declared.Bitmap.{Bitmap}
 use Rattle.walk.specs.declared.Bitmap.the-variants as Bitmap
 use Rattle.walk.specs.declared.Starts.{Starts}
 use Rattle.walk.specs.declared.Located.{Located}
 use Rattle.walk.specs.declared.Section.the-variants as Found
-use Rattle.walk.specs.Walk.{at, follows, sectionAt, startsAfter, bitmapAfter, noStarts, Walking, Tiled, finished, took, stepped, sectionStep, sections}
+use Rattle.walk.specs.Walk.{follows, sectionAt, startsAfter, bitmapAfter, noStarts, Walking, Tiled, finished, took, stepped, sectionStep, sections}
 use Rattle.walk.specs.Stands as Stands
 use Rattle.walk.proofs.Laws.{stands-only, trace-walk}
 use Rattle.tiling.specs.declared.Header.the-variants as Header

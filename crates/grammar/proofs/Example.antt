@@ -5,10 +5,11 @@ use mathlib.Core.Path.{_≡_, refl}
 use mathlib.Core.List.{List, [], _∷_, _++_}
 use lib.ListN.{length, replicate}
 use Rattle.octets.specs.Numbers.{numberAt}
+use Rattle.octets.specs.Places.{at}
 use Rattle.machine.specs.Machine.{run, runFor}
 use Rattle.walk.specs.declared.Bitmap.the-variants as Bitmap
 use Rattle.walk.specs.declared.Located.{Located}
-use Rattle.walk.specs.Walk.{at, sectionAt, startsAfter, bitmapAfter}
+use Rattle.walk.specs.Walk.{sectionAt, startsAfter, bitmapAfter}
 use Rattle.tiling.specs.declared.Checked.the-variants as Checked
 use Rattle.tiling.specs.declared.Found.the-variants as Found
 use Rattle.tiling.specs.Tiling.{headerAt, message, check, find}

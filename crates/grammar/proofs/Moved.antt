@@ -10,10 +10,11 @@ use lib.Dec.{leb, eqb}
 use lib.ListN.{length}
 use Rattle.octets.specs.Numbers.{octetAt, numberAt}
 use Rattle.octets.proofs.Cases.{split}
+use Rattle.octets.specs.Places.{at}
+use Rattle.sections.specs.Sections.{lengthAt}
 use Rattle.walk.specs.declared.Bitmap.{Bitmap}
 use Rattle.walk.specs.declared.Bitmap.the-variants as Bitmap
 use Rattle.walk.specs.declared.Located.{Located}
-use Rattle.walk.specs.Walk.{at, lengthAt}
 use Rattle.tiling.specs.Tiling.{statedAt}
 use Rattle.grammar.specs.Grammar as Grammar
 use Rattle.grammar.specs.Grammar.{Section, Field, Fields, Grid, Grids, Message, bitmapOf}

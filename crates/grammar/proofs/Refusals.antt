@@ -9,12 +9,14 @@ use native.Mathlib.Omega.{arith}
 use borrow.Author.Tests.{le-ltb, ltb-false}
 use lib.Dec.{ltb}
 use lib.ListN.{length, getD}
+use Rattle.octets.specs.Places.{at}
 use Rattle.refusals.specs.declared.Refusal.{Refusal}
 use Rattle.refusals.specs.declared.Why.the-variants as Why
+use Rattle.refusals.specs.Refusals.{refusal}
 use Rattle.machine.specs.Machine.{go, stop, Trace, halts, steps}
 use Rattle.walk.specs.declared.Located.{Located}
 use Rattle.walk.specs.Walk as Walk
-use Rattle.walk.specs.Walk.{at, refusal, nowhere, Walking, Tiled, located, took, stepped}
+use Rattle.walk.specs.Walk.{nowhere, Walking, Tiled, located, took, stepped}
 use Rattle.walk.specs.Stands as Stands
 use Rattle.walk.proofs.Laws as walk
 use Rattle.walk.proofs.Laws.{stands-only, Walks, walks, walk-trace, trace-walk}

@@ -4,10 +4,12 @@ use Prim.Native.Nat.{ℕ, _+_, _≤_}
 use mathlib.Core.Path.{_≡_}
 use mathlib.Core.List.{List, [], _∷_, _++_}
 use lib.ListN.{length}
+use Rattle.octets.specs.Places.{at}
+use Rattle.sections.specs.Sections.{lengthAt, kindAt}
 use Rattle.walk.specs.declared.Bitmap.{Bitmap}
 use Rattle.walk.specs.declared.Bitmap.the-variants as Bitmap
 use Rattle.walk.specs.declared.Located.{Located}
-use Rattle.walk.specs.Walk.{at, lengthAt, kindAt, bitmapBehind}
+use Rattle.walk.specs.Walk.{bitmapBehind}
 use Rattle.tiling.specs.Tiling.{largest, grib, sevens, markAt, editionAt, statedAt}
 use Rattle.octets.specs.Numbers.{numberAt}
 

@@ -2,3 +2,4 @@
 pub mod Grammar
 pub mod Refusals
 pub mod Moved
+pub mod Laid

@@ -3,10 +3,10 @@ use Prim.Native.Nat.{ℕ, _+_, _-_, _≤_, _<_}
 use mathlib.Core.Path.{_≡_}
 use mathlib.Core.List.{List}
 use Rattle.octets.specs.Numbers.{octetAt}
+use Rattle.octets.specs.Places.{at}
 use Rattle.walk.specs.declared.Bitmap.{Bitmap}
 use Rattle.walk.specs.declared.Bitmap.the-variants as Bitmap
 use Rattle.walk.specs.declared.Located.{Located}
-use Rattle.walk.specs.Walk.{at}
 
 -- Where a place lies that is moved with the message from a to c.
 abbrev pub moved : ℕ → ℕ → ℕ → ℕ

@@ -5,11 +5,13 @@ use mathlib.Core.Path.{_≡_}
 use mathlib.Core.Bool.{true}
 use mathlib.Core.List.{List}
 use lib.ListN.{length}
+use Rattle.octets.specs.Places.{at}
 use Rattle.refusals.specs.declared.Refusal.{Refusal}
 use Rattle.refusals.specs.declared.Why.the-variants as Why
+use Rattle.refusals.specs.Refusals.{refusal}
 use Rattle.walk.specs.declared.Located.{Located}
 use Rattle.walk.specs.declared.Section.the-variants as Found
-use Rattle.walk.specs.Walk.{at, refusal, follows}
+use Rattle.walk.specs.Walk.{follows}
 use Rattle.walk.specs.Stands.{Stands}
 use Rattle.tiling.specs.declared.Header.the-variants as Header
 use Rattle.tiling.specs.Tiling.{largest}

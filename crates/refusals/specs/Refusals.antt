@@ -1,8 +1,13 @@
 -- Document 01, "Refusals by number": the number that each refusal has, and what C is given for it.
 use Prim.Native.Nat.{ℕ, _+_, _*_, _^_}
+use Rattle.octets.specs.Places.{at}
 use Rattle.refusals.specs.declared.Why.{Why}
 use Rattle.refusals.specs.declared.Why.the-variants as Why
 use Rattle.refusals.specs.declared.Refusal.{Refusal}
+
+-- A refusal at a place.
+abbrev pub refusal : Why → ℕ → Refusal
+refusal why p = record { why = why; place = at p }
 
 -- The number of each refusal in the table.
 abbrev pub numberOf : Why → ℕ

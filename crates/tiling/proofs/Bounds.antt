@@ -1,16 +1,24 @@
--- The numbers in an answer of check are small: no file that is taken has more messages or fields than octets, and a refusal names a place within
--- such a file.
+-- The numbers in an answer of check are small: no file that is taken has more messages or fields than octets, and a refusal of check or find
+-- names a place within such a file.
 use Prim.Native.Nat.{ℕ, _≤_}
 use mathlib.Core.Path.{_≡_, refl, ap, subst}
+use mathlib.Core.Bool.{Bool, true, false, cond}
 use mathlib.Core.List.{List}
 use native.Mathlib.Nat.{le-of-lt}
 use native.Mathlib.Omega.{arith}
-use lib.ListN.{length, length-append}
+use lib.Dec.{ltb}
+use lib.ListN.{length, getD, length-append}
+use Rattle.refusals.specs.declared.Refusal.{Refusal}
+use Rattle.refusals.specs.declared.Why.the-variants as Why
+use Rattle.refusals.specs.Refusals.{refusal}
 use Rattle.machine.specs.Machine.{go, stop, Trace, halts, steps}
 use Rattle.walk.specs.declared.Located.{Located}
+use Rattle.walk.specs.Walk.{nowhere}
 use Rattle.tiling.specs.declared.Checked.{Checked}
 use Rattle.tiling.specs.declared.Checked.the-variants as Checked
-use Rattle.tiling.specs.Tiling.{largest, passed, Reading, Outcome, tiled, refused, fileStep, outcome, checked, check}
+use Rattle.tiling.specs.declared.Found.{Found}
+use Rattle.tiling.specs.declared.Found.the-variants as Found
+use Rattle.tiling.specs.Tiling.{largest, passed, Reading, Outcome, tiled, refused, fileStep, outcome, checked, check, found, find}
 use Rattle.tiling.proofs.Laws.{Bounded, message-bounded, Reads, on, end, reads, Whole, read, whole, check-placed}
 
 -- No number in the answer is above the length of the largest file that is taken.
@@ -43,4 +51,20 @@ module _ (file : List ℕ) where
     where
       by : (o : Outcome) → outcome file ≡ o → Small (checked o)
       by (tiled m fields) h = whole-few (subst (Whole file) h (whole file))
+      by (refused r) h = check-placed file (ap checked h) .1
+
+  -- So is the place in a refusal of find.
+  abbrev InFile : Found → Type 0
+  InFile (Found.At l) = Unit {0}
+  InFile (Found.Refused r) = r .place .0 ≤ largest
+
+  field-in-file : (there : Bool) (l : Located) → InFile (cond there (Found.At l) (Found.Refused (refusal Why.NoSuchField 0)))
+  field-in-file true l = tt
+  field-in-file false l = omega arith
+
+  pub find-bounded : (k : ℕ) {r : Refusal} → find file k ≡ Found.Refused r → r .place .0 ≤ largest
+  find-bounded k e = subst InFile e (by (outcome file) refl)
+    where
+      by : (o : Outcome) → outcome file ≡ o → InFile (found k o)
+      by (tiled m fields) h = field-in-file (ltb k (length fields)) (getD fields k nowhere)
       by (refused r) h = check-placed file (ap checked h) .1

@@ -11,13 +11,15 @@ use lib.ListN.{length, getD, length-append, List·getD-append}
 use lib.Seq.{getD-append-add}
 use Rattle.octets.specs.declared.FilePlace.{FilePlace}
 use Rattle.octets.proofs.Cases.{split}
+use Rattle.octets.specs.Places.{at}
 use Rattle.refusals.specs.declared.Refusal.{Refusal}
 use Rattle.refusals.specs.declared.Why.the-variants as Why
+use Rattle.refusals.specs.Refusals.{refusal}
 use Rattle.walk.specs.declared.Located.{Located}
 use Rattle.walk.specs.declared.Walked.{Walked}
 use Rattle.walk.specs.declared.Walked.the-variants as Walked
 use Rattle.walk.specs.Walk as Walk
-use Rattle.walk.specs.Walk.{Tiled, at, refusal, nowhere, sections, counted}
+use Rattle.walk.specs.Walk.{Tiled, nowhere, sections, counted}
 use Rattle.tiling.specs.declared.Header.the-variants as Header
 use Rattle.tiling.specs.declared.Message as declared
 use Rattle.tiling.specs.declared.Message.the-variants as Told

@@ -11,13 +11,15 @@ use lib.Dec.{ltb, eqb}
 use lib.ListN.{length}
 use Rattle.octets.specs.declared.FilePlace.{FilePlace}
 use Rattle.octets.proofs.Cases.{split}
+use Rattle.octets.specs.Places.{at}
 use Rattle.refusals.specs.declared.Refusal.{Refusal}
 use Rattle.refusals.specs.declared.Why.the-variants as Why
+use Rattle.refusals.specs.Refusals.{refusal}
 use Rattle.machine.specs.Machine.{Next, go, stop, Trace, halts, steps}
 use Rattle.machine.proofs.Laws.{run-go, run-stop, run-trace, trace-run}
 use Rattle.walk.specs.declared.Located.{Located}
 use Rattle.walk.specs.Walk as Walk
-use Rattle.walk.specs.Walk.{Tiled, at, refusal, sections}
+use Rattle.walk.specs.Walk.{Tiled, sections}
 use Rattle.walk.proofs.Laws.{Within, fields-within}
 use Rattle.tiling.specs.declared.Header.{Header}
 use Rattle.tiling.specs.declared.Header.the-variants as Header

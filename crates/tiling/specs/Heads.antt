@@ -4,8 +4,9 @@ use Prim.Native.Nat.{ℕ, _+_, _-_, _≤_, _<_}
 use mathlib.Core.Path.{_≡_}
 use mathlib.Core.List.{List}
 use lib.ListN.{length}
+use Rattle.octets.specs.Places.{at}
 use Rattle.refusals.specs.declared.Why.the-variants as Why
-use Rattle.walk.specs.Walk.{at, refusal}
+use Rattle.refusals.specs.Refusals.{refusal}
 use Rattle.tiling.specs.declared.Header.{Header}
 use Rattle.tiling.specs.declared.Header.the-variants as Header
 use Rattle.tiling.specs.Tiling.{grib, sevens, markAt, editionAt, statedAt, lastAt}

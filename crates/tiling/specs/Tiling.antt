@@ -4,14 +4,15 @@ use mathlib.Core.List.{List, [], _++_}
 use mathlib.Core.Bool.{cond, not}
 use lib.Dec.{ltb, eqb}
 use lib.ListN.{length, getD}
-use Rattle.octets.specs.Places.{placeOf}
+use Rattle.octets.specs.Places.{placeOf, at}
 use Rattle.octets.specs.Numbers.{numberAt}
 use Rattle.refusals.specs.declared.Refusal.{Refusal}
 use Rattle.refusals.specs.declared.Why.the-variants as Why
+use Rattle.refusals.specs.Refusals.{refusal}
 use Rattle.machine.specs.Machine.{Next, go, stop, run}
 use Rattle.walk.specs.declared.Located.{Located}
 use Rattle.walk.specs.Walk as Walk
-use Rattle.walk.specs.Walk.{Tiled, at, refusal, nowhere, sections}
+use Rattle.walk.specs.Walk.{Tiled, nowhere, sections}
 use Rattle.tiling.specs.declared.Header.{Header}
 use Rattle.tiling.specs.declared.Header.the-variants as Header
 use Rattle.tiling.specs.declared.Message as declared

@@ -10,14 +10,17 @@ use lib.Dec.{ltb, leb, eqb}
 use lib.ListN.{length, length-append}
 use Rattle.octets.specs.declared.FilePlace.{FilePlace}
 use Rattle.octets.proofs.Cases.{split}
+use Rattle.octets.specs.Places.{at}
+use Rattle.sections.specs.Sections.{lengthAt, kindAt}
 use Rattle.refusals.specs.declared.Refusal.{Refusal}
 use Rattle.refusals.specs.declared.Why.the-variants as Why
+use Rattle.refusals.specs.Refusals.{refusal}
 use Rattle.machine.specs.Machine.{Next, go, stop, Trace}
 use Rattle.machine.proofs.Laws.{run-go, run-stop, run-gives, run-trace, trace-run}
 use Rattle.walk.specs.declared.Located.{Located}
 use Rattle.walk.specs.declared.Section.{Section}
 use Rattle.walk.specs.declared.Section.the-variants as Section
-use Rattle.walk.specs.Walk.{at, refusal, follows, lengthAt, kindAt, sectionAt, Walking, Tiled, finished, refused, located, took, stepped, sectionStep, walkFrom, sections}
+use Rattle.walk.specs.Walk.{follows, sectionAt, Walking, Tiled, finished, refused, located, took, stepped, sectionStep, walkFrom, sections}
 use Rattle.walk.specs.Stands.{Fits, Stands, ends, unfinished, misfit, strange, next}
 
 module _ (file : List ℕ) (p e after : ℕ) where

@@ -4,10 +4,13 @@ use Prim.Native.Nat.{ℕ, _+_, _≤_, _<_}
 use mathlib.Core.Path.{_≡_}
 use mathlib.Core.Bool.{true, false}
 use mathlib.Core.List.{List}
+use Rattle.octets.specs.Places.{at}
+use Rattle.sections.specs.Sections.{lengthAt, kindAt}
 use Rattle.refusals.specs.declared.Why.the-variants as Why
+use Rattle.refusals.specs.Refusals.{refusal}
 use Rattle.walk.specs.declared.Section.{Section}
 use Rattle.walk.specs.declared.Section.the-variants as Section
-use Rattle.walk.specs.Walk.{at, refusal, follows, lengthAt, kindAt}
+use Rattle.walk.specs.Walk.{follows}
 
 -- A section stands at p: there is room for its length, which is 5 or more, before e.
 pub record Fits (file : List ℕ) (p e : ℕ) : Type 0 where

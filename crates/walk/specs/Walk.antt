@@ -4,12 +4,12 @@ use mathlib.Core.List.{List, [], _∷_, _++_}
 use mathlib.Core.Bool.{Bool, false, cond, _||_, _&&_}
 use lib.Dec.{ltb, leb, eqb}
 use lib.ListN.{length, getD}
-use Rattle.octets.specs.declared.FilePlace.{FilePlace}
-use Rattle.octets.specs.Places.{placeOf}
-use Rattle.octets.specs.Numbers.{octetAt, numberAt}
+use Rattle.octets.specs.Places.{at, placeOf}
+use Rattle.octets.specs.Numbers.{octetAt}
+use Rattle.sections.specs.Sections.{lengthAt, kindAt}
 use Rattle.refusals.specs.declared.Refusal.{Refusal}
-use Rattle.refusals.specs.declared.Why.{Why}
 use Rattle.refusals.specs.declared.Why.the-variants as Why
+use Rattle.refusals.specs.Refusals.{refusal}
 use Rattle.machine.specs.Machine.{Next, go, stop, run}
 use Rattle.walk.specs.declared.Bitmap.{Bitmap}
 use Rattle.walk.specs.declared.Bitmap.the-variants as Bitmap
@@ -20,12 +20,6 @@ use Rattle.walk.specs.declared.Section.the-variants as Section
 use Rattle.walk.specs.declared.Progress.{Progress}
 use Rattle.walk.specs.declared.Walked.{Walked}
 use Rattle.walk.specs.declared.Walked.the-variants as Walked
-
-abbrev pub at : ℕ → FilePlace
-at p = record { 0 = p }
-
-abbrev pub refusal : Why → ℕ → Refusal
-refusal why p = record { why = why; place = at p }
 
 -- Which number may follow which: 0 first, then 1, then 3 and 4 to 7 in turn; behind 7 the next field or the next grid begins.
 abbrev pub follows : ℕ → ℕ → Bool
@@ -38,13 +32,6 @@ follows after n =
     (cond (eqb after 6) (eqb n 7)
     (cond (eqb after 7) (eqb n 3 || eqb n 4)
     false))))))
-
--- The length and the number of the section at p: octets 1-4, and octet 5.
-abbrev pub lengthAt : List ℕ → ℕ → ℕ
-lengthAt file p = numberAt file (placeOf p 1) 4
-
-abbrev pub kindAt : List ℕ → ℕ → ℕ
-kindAt file p = octetAt file (placeOf p 5)
 
 -- What stands at p, where the sections end at e and `after` is the number of the section before. At the end a field must be finished, else 6.
 -- Before it, there must be room for a section's head, and the length must be one that holds the head and ends by e, else 5; and the number

@@ -3,7 +3,8 @@
 use mathlib.Core.Path.{_≡_, sym, _∙_}
 use native.Mathlib.Omega.{arith}
 use borrow.Author.Needs.{needs}
-use Rattle.walk.specs.Walk.{follows, lengthAt, kindAt}
+use Rattle.sections.specs.Sections.{lengthAt, kindAt}
+use Rattle.walk.specs.Walk.{follows}
 use Rattle.walk.specs.Stands.{Fits, ends, unfinished, misfit, strange, next}
 use Rattle.walk.proofs.Laws.{stands-only}
 use Rattle.walk.proofs.section_at.Statement.{statement}

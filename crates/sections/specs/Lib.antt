@@ -1,0 +1,2 @@
+-- What a section is, and what its octets hold.
+pub mod Sections
