@@ -71,6 +71,13 @@ fn power_of_two(e: Signed) -> f64
     }
 }
 
+// Is the single with these bits finite? Its exponent's field is not all ones then.
+pub fn is_finite(r: u32) -> bool
+    ensures { λ a. ⌜ a ≡ finite (ofBits binary32 r) ⌝ }
+{
+    r % 0x8000_0000 / 0x80_0000 != 255
+}
+
 // The packing record of section 5's numbers. `r` is the single that four octets hold, by its bits.
 pub fn packing_of(r: u32, e: Signed, d: Signed) -> Packing
     requires { ⌜ T (finite (ofBits binary32 r)) ⌝ }
@@ -111,7 +118,7 @@ fn not_rebuildable() -> Rebuilt
 pub fn rebuild_one(r: u32, e: Signed, d: Signed, x: Signed) -> Rebuilt
     ensures { λ a. ⌜ a ≡ answerOf r e d x ⌝ }
 {
-    if r % 0x8000_0000 / 0x80_0000 == 255 {
+    if !is_finite(r) {
         return not_rebuildable();
     }
     if e.size > 127 {
