@@ -1,0 +1,3 @@
+-- Which numbers make a grid, and where its points lie.
+pub mod Geometry
+pub mod Positions

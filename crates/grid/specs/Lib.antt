@@ -1,0 +1,2 @@
+-- What section 3 says.
+pub mod Section3

@@ -1,0 +1,2 @@
+-- What section 1 says.
+pub mod Identification
