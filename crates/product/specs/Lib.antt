@@ -1,0 +1,2 @@
+-- What section 4 says.
+pub mod Product

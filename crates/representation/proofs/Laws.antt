@@ -1,0 +1,144 @@
+-- What a caller may rely on where a section 5 is taken: the limits of R, E, D and the bits of a number, and those of the groups of template 5.3.
+use mathlib.Core.Path.{_≡_, refl, ap, sym, subst, _∙_}
+use mathlib.Core.Bool.{Bool, true, false, cond}
+use mathlib.Core.List.{List}
+use Prim.Native.Nat.{ℕ, _^_, _≤_, _<_}
+use native.Mathlib.Omega.{arith}
+use borrow.Author.Tests.{leb-true}
+use lib.Dec.{T, leb}
+use lib.Ieee.{binary32, ofBits}
+use lib.Ieee.Scale.{finite}
+use Rattle.octets.specs.Places.{placeOf}
+use Rattle.octets.specs.Numbers.{octetAt}
+use Rattle.octets.proofs.Cases.{split, both}
+use Rattle.octets.proofs.Laws.{number-fits}
+use Rattle.sections.specs.Sections.{held}
+use Rattle.refusals.specs.declared.Refusal.{Refusal}
+use Rattle.representation.specs.declared.Grouping.{Grouping}
+use Rattle.representation.specs.declared.Template.{Template}
+use Rattle.representation.specs.declared.Template.the-variants as Template
+use Rattle.representation.specs.declared.TemplateReading.{TemplateReading}
+use Rattle.representation.specs.declared.TemplateReading.the-variants as TemplateReading
+use Rattle.representation.specs.declared.Representation.{Representation}
+use Rattle.representation.specs.declared.Represented.{Represented}
+use Rattle.representation.specs.declared.Represented.the-variants as Represented
+use Rattle.representation.specs.Representation.{refused, isScaled, groupingAt, isGrouping, templateAt, representedBy, representationAt}
+use Rattle.representation.proofs.Tests.{representationWith, limited, complex-is-grouped}
+
+-- The numbers from which a value is rebuilt: R is finite, E and D are of at most 127 and 22, and a number has at most 31 bits.
+pub record Scaled (r : Representation) : Type 0 where
+  pub finiteR : T (finite (ofBits binary32 (r .r)))
+  pub e127 : r .e .size ≤ 127
+  pub d22 : r .d .size ≤ 22
+  pub bits31 : r .bits ≤ 31
+
+-- The groups of n values in template 5.3: the reference width, and the bits of a stored width and of a stored length, are at most 31; each of the
+-- three numbers that stand before the groups has 1 to 4 octets; there are at least two values, and from 1 to n groups.
+pub record Grouped (g : Grouping) (n : ℕ) : Type 0 where
+  pub width31 : g .widths .reference ≤ 31
+  pub widthBits31 : g .widths .bits ≤ 31
+  pub lengthBits31 : g .lengths .bits ≤ 31
+  pub extra1 : 1 ≤ g .extra
+  pub extra4 : g .extra ≤ 4
+  pub values2 : 2 ≤ n
+  pub groups1 : 1 ≤ g .groups
+  pub groupsN : g .groups ≤ n
+
+-- That is what `isGrouping` tests.
+module _ (g : Grouping) (n : ℕ) where
+  pub grouped : isGrouping g n ≡ true → Grouped g n
+  grouped e =
+      let groupsN = both _ (leb (g .groups) n) e in
+      let groups1 = both _ (leb 1 (g .groups)) (groupsN .0) in
+      let values2 = both _ (leb 2 n) (groups1 .0) in
+      let extra4 = both _ (leb (g .extra) 4) (values2 .0) in
+      let extra1 = both _ (leb 1 (g .extra)) (extra4 .0) in
+      let lengthBits31 = both _ (leb (g .lengths .bits) 31) (extra1 .0) in
+      let widthBits31 = both _ (leb (g .widths .bits) 31) (lengthBits31 .0) in
+      record {
+        width31 = leb-true _ _ (widthBits31 .0);
+        widthBits31 = leb-true _ _ (widthBits31 .1);
+        lengthBits31 = leb-true _ _ (lengthBits31 .1);
+        extra1 = leb-true _ _ (extra1 .1);
+        extra4 = leb-true _ _ (extra4 .1);
+        values2 = leb-true _ _ (values2 .1);
+        groups1 = leb-true _ _ (groups1 .1);
+        groupsN = leb-true _ _ (groupsN .1);
+      }
+
+  pub grouped-not : (Grouped g n → ⊥) → isGrouping g n ≡ false
+  grouped-not out = split (isGrouping g n) (λ e. absurd (out (grouped e))) (λ e. e)
+
+-- The increment of the lengths fits one octet, and their reference and the last length fit four.
+pub record LengthsFit (g : Grouping) : Type 0 where
+  pub increment256 : g .lengths .increment < 256
+  pub reference32 : g .lengths .reference < 2 ^ 32
+  pub last32 : g .lengths .last < 2 ^ 32
+
+-- What a representation that is said was read from.
+record ReadFrom (file : List ℕ) (s : ℕ) (r : Representation) (reading : TemplateReading) : Type 0 where
+  template : reading ≡ TemplateReading.Is (r .template)
+  scaled : isScaled file s ≡ true
+  whole : representationWith file s (r .template) ≡ r
+
+module _ (file : List ℕ) (s : ℕ) where
+  read-from : {r : Representation} (reading : TemplateReading) → representedBy file s reading ≡ Represented.By r → ReadFrom file s r reading
+  read-from {r} (TemplateReading.Is t) said =
+      split (isScaled file s)
+      (λ e.
+      let same : representationWith file s t ≡ r = cc in
+      let template : t ≡ r .template = ap (λ (r : Representation). r .template) same in
+      record { template = ap (λ (t : Template). TemplateReading.Is t) template; scaled = e; whole = ap (representationWith file s) (sym template) ∙ same })
+      (λ e. let impossible : _≡_ {A = ℕ} 0 1 = cc in absurd (omega arith))
+  read-from {r} TemplateReading.Bad said = let impossible : _≡_ {A = ℕ} 0 1 = cc in absurd (omega arith)
+
+  is-read : {r : Representation} → representationAt file s ≡ Represented.By r → ReadFrom file s r (templateAt file s)
+  unfolding representationAt
+  is-read said = read-from (templateAt file s) said
+
+  -- What is taken has its numbers within their limits.
+  pub represented : {r : Representation} → representationAt file s ≡ Represented.By r → Scaled r
+  represented {r} said =
+      let from = is-read said in
+      let limits = limited file s (from .scaled) in
+      subst Scaled (from .whole)
+      (record { finiteR = subst T (sym (limits .finiteR)) tt; e127 = limits .e127; d22 = limits .d22; bits31 = limits .bits31 })
+
+  -- Its groups, where it has template 5.3, are those that the octets tell.
+  groups-read : {r : Representation} {g : Grouping} → representationAt file s ≡ Represented.By r → r .template ≡ Template.Complex g → (groupingAt file s ≡ g) × (isGrouping (groupingAt file s) (held file s 6 9) ≡ true)
+  groups-read {r} {g} said complex = complex-is-grouped file s (is-read said .template ∙ ap (λ (t : Template). TemplateReading.Is t) complex)
+
+  -- The groups of template 5.3 are within theirs.
+  pub represented-groups : {r : Representation} {g : Grouping} → representationAt file s ≡ Represented.By r → r .template ≡ Template.Complex g → Grouped g (r .n)
+  represented-groups {r} {g} said complex =
+      let groups = groups-read said complex in
+      let count : held file s 6 9 ≡ r .n = ap (λ (r : Representation). r .n) (is-read said .whole) in
+      subst (λ (n : ℕ). Grouped g n) count
+      (subst (λ (g : Grouping). Grouped g (held file s 6 9)) (groups .0) (grouped (groupingAt file s) (held file s 6 9) (groups .1)))
+
+  -- Where each octet of the file is below 256, the numbers of their lengths fit the octets that they stand in.
+  pub represented-lengths : {r : Representation} {g : Grouping} → ((i : ℕ) → octetAt file i < 256) → representationAt file s ≡ Represented.By r → r .template ≡ Template.Complex g → LengthsFit g
+  represented-lengths {r} {g} octets said complex =
+      subst LengthsFit (groups-read said complex .0)
+      (record {
+        increment256 = octets (placeOf s 42);
+        reference32 = number-fits file (placeOf s 38) 4 octets;
+        last32 = number-fits file (placeOf s 43) 4 octets;
+      })
+
+-- Where a section 5 is refused, the refusal stands at it.
+abbrev StandsAt : ℕ → Represented → Type 0
+StandsAt s (Represented.By r) = Unit {0}
+StandsAt s (Represented.Refused r) = r .place .0 ≡ s
+
+tested-stands : (s : ℕ) (test : Bool) (answer : Represented) → StandsAt s answer → StandsAt s (cond test answer (refused s))
+tested-stands s true answer stands = stands
+tested-stands s false answer stands = refl
+
+reading-stands : (file : List ℕ) (s : ℕ) (reading : TemplateReading) → StandsAt s (representedBy file s reading)
+reading-stands file s (TemplateReading.Is t) = tested-stands s (isScaled file s) (Represented.By (representationWith file s t)) tt
+reading-stands file s TemplateReading.Bad = refl
+
+pub refused-place : (file : List ℕ) (s : ℕ) {r : Refusal} → representationAt file s ≡ Represented.Refused r → r .place .0 ≡ s
+unfolding representationAt
+refused-place file s said = subst (StandsAt s) said (reading-stands file s (templateAt file s))

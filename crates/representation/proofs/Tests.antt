@@ -1,0 +1,141 @@
+-- What each test of section 5 tells, and that the template and what is said of the section follow from the tests.
+use mathlib.Core.Path.{_≡_, ap, _∙_}
+use mathlib.Core.Bool.{true, false, cond}
+use mathlib.Core.List.{List}
+use Prim.Native.Nat.{ℕ, _≤_}
+use native.Mathlib.Omega.{arith}
+use borrow.Author.Tests.{eqb-true, eqb-false, leb-true, eq-eqb, ne-eqb, le-leb}
+use lib.Dec.{eqb, leb}
+use lib.Ieee.{binary32, ofBits}
+use lib.Ieee.Scale.{finite}
+use Rattle.octets.proofs.Cases.{split, both}
+use Rattle.sections.specs.Sections.{octet, held, heldSigned, lengthAt}
+use Rattle.representation.specs.declared.Grouping.{Grouping}
+use Rattle.representation.specs.declared.Template.{Template}
+use Rattle.representation.specs.declared.Template.the-variants as Template
+use Rattle.representation.specs.declared.TemplateReading.the-variants as TemplateReading
+use Rattle.representation.specs.declared.Representation.{Representation}
+use Rattle.representation.specs.declared.Represented.the-variants as Represented
+use Rattle.representation.specs.Representation.{refused, isScaled, groupingAt, isDifferenced, isGrouping, complexAt, templateAt, representedBy, representationAt}
+
+-- What the octets of a section 5 with a given template say.
+abbrev pub representationWith : List ℕ → ℕ → Template → Representation
+representationWith file s template =
+    record {
+      n = held file s 6 9;
+      r = held file s 12 15;
+      e = heldSigned file s 16 17;
+      d = heldSigned file s 18 19;
+      bits = octet file s 20;
+      template = template;
+    }
+
+-- Where the other bounds hold, the number of groups decides.
+pub groups-decide : (g : Grouping) (n : ℕ) → (g .widths .reference ≤ 31) × (g .widths .bits ≤ 31) × (g .lengths .bits ≤ 31) × (1 ≤ g .extra) × (g .extra ≤ 4) × (2 ≤ n) × (1 ≤ g .groups) → isGrouping g n ≡ leb (g .groups) n
+groups-decide g n h =
+    simp (
+      le-leb _ _ (h .0),
+      le-leb _ _ (h .1),
+      le-leb _ _ (h .2),
+      le-leb _ _ (h .3),
+      le-leb _ _ (h .4),
+      le-leb _ _ (h .5),
+      le-leb _ _ (h .6),
+    )
+
+-- What `isScaled` tells, but for octet 21.
+pub record Limited (file : List ℕ) (s : ℕ) : Type 0 where
+  pub finiteR : finite (ofBits binary32 (held file s 12 15)) ≡ true
+  pub e127 : heldSigned file s 16 17 .size ≤ 127
+  pub d22 : heldSigned file s 18 19 .size ≤ 22
+  pub bits31 : octet file s 20 ≤ 31
+
+module _ (file : List ℕ) (s : ℕ) where
+  pub limited : isScaled file s ≡ true → Limited file s
+  limited e =
+      let doubles = both _ (eqb (octet file s 21) 0) e in
+      let bits31 = both _ (leb (octet file s 20) 31) (doubles .0) in
+      let d22 = both _ (leb (heldSigned file s 18 19 .size) 22) (bits31 .0) in
+      let e127 = both _ (leb (heldSigned file s 16 17 .size) 127) (d22 .0) in
+      record { finiteR = e127 .0; e127 = leb-true _ _ (e127 .1); d22 = leb-true _ _ (d22 .1); bits31 = leb-true _ _ (bits31 .1) }
+
+  pub limited-not : (Limited file s → ⊥) → isScaled file s ≡ false
+  limited-not out = split (isScaled file s) (λ e. absurd (out (limited e))) (λ e. e)
+
+  pub not-finite : finite (ofBits binary32 (held file s 12 15)) ≡ false → isScaled file s ≡ false
+  not-finite e = simp e
+
+  -- Within those limits, octet 21 decides.
+  pub doubles-decide : Limited file s → isScaled file s ≡ eqb (octet file s 21) 0
+  doubles-decide h = simp (h .finiteR, le-leb _ _ (h .e127), le-leb _ _ (h .d22), le-leb _ _ (h .bits31))
+
+  -- What is said of the differences follows from the octets in turn.
+  pub no-groups : (octet file s 22 ≡ 1 → ⊥) → isDifferenced file s ≡ false
+  no-groups other = simp (ne-eqb _ _ other)
+
+  pub missing-values : octet file s 22 ≡ 1 → (octet file s 23 ≡ 0 → ⊥) → isDifferenced file s ≡ false
+  missing-values groups other = simp (eq-eqb _ _ groups, ne-eqb _ _ other)
+
+  pub order-decides : octet file s 22 ≡ 1 → octet file s 23 ≡ 0 → isDifferenced file s ≡ eqb (octet file s 48) 2
+  order-decides groups missing = simp (eq-eqb _ _ groups, eq-eqb _ _ missing)
+
+  -- What template 5.3 is read as follows from the two tests.
+  pub not-differenced : isDifferenced file s ≡ false → complexAt file s ≡ TemplateReading.Bad
+  not-differenced e = simp e
+
+  pub not-grouped : isGrouping (groupingAt file s) (held file s 6 9) ≡ false → complexAt file s ≡ TemplateReading.Bad
+  not-grouped e = split (isDifferenced file s) (λ d. simp (d, e)) not-differenced
+
+  pub differenced : isDifferenced file s ≡ true → isGrouping (groupingAt file s) (held file s 6 9) ≡ true → complexAt file s ≡ TemplateReading.Is (Template.Complex (groupingAt file s))
+  differenced d e = simp (d, e)
+
+  -- Which template is read follows from the length.
+  pub template-in-21 : lengthAt file s ≡ 21 → templateAt file s ≡ cond (eqb (held file s 10 11) 0) (TemplateReading.Is Template.Simple) TemplateReading.Bad
+  template-in-21 length = rw (eq-eqb _ 21 length)
+
+  pub template-in-49 : lengthAt file s ≡ 49 → templateAt file s ≡ cond (eqb (held file s 10 11) 3) (complexAt file s) TemplateReading.Bad
+  template-in-49 length = rw (ne-eqb (lengthAt file s) 21 (omega arith), eq-eqb _ 49 length)
+
+  pub no-template : (lengthAt file s ≡ 21 → ⊥) → (lengthAt file s ≡ 49 → ⊥) → templateAt file s ≡ TemplateReading.Bad
+  no-template not21 not49 = simp (ne-eqb _ 21 not21, ne-eqb _ 49 not49)
+
+  -- A section with a template has at least 21 octets.
+  pub template-needs-21 : {t : Template} → templateAt file s ≡ TemplateReading.Is t → 21 ≤ lengthAt file s
+  template-needs-21 {t} read =
+      split (eqb (lengthAt file s) 21) (λ length. omega (arith, eqb-true))
+      (λ not21.
+      split (eqb (lengthAt file s) 49) (λ length. omega (arith, eqb-true))
+      (λ not49. let impossible : _≡_ {A = ℕ} 0 1 = cc (no-template (eqb-false _ _ not21) (eqb-false _ _ not49)) in absurd (omega arith)))
+
+  -- The groups of template 5.3 are those that the octets tell, and have passed their test.
+  pub complex-is-grouped : {g : Grouping} → templateAt file s ≡ TemplateReading.Is (Template.Complex g) → (groupingAt file s ≡ g) × (isGrouping (groupingAt file s) (held file s 6 9) ≡ true)
+  complex-is-grouped {g} read =
+      split (eqb (lengthAt file s) 21)
+      (λ length.
+      split (eqb (held file s 10 11) 0) (λ e. let impossible : _≡_ {A = ℕ} 0 1 = cc in absurd (omega arith))
+      (λ e. let impossible : _≡_ {A = ℕ} 0 1 = cc in absurd (omega arith)))
+      (λ not21.
+      split (eqb (lengthAt file s) 49)
+      (λ length.
+      split (eqb (held file s 10 11) 3)
+      (λ e.
+      split (isDifferenced file s)
+      (λ d.
+      split (isGrouping (groupingAt file s) (held file s 6 9)) (λ grouped. ((cc (differenced d grouped)), grouped))
+      (λ fails. let impossible : _≡_ {A = ℕ} 0 1 = cc (not-grouped fails) in absurd (omega arith)))
+      (λ d. let impossible : _≡_ {A = ℕ} 0 1 = cc (not-differenced d) in absurd (omega arith)))
+      (λ e. let impossible : _≡_ {A = ℕ} 0 1 = cc in absurd (omega arith)))
+      (λ not49. let impossible : _≡_ {A = ℕ} 0 1 = cc (no-template (eqb-false _ _ not21) (eqb-false _ _ not49)) in absurd (omega arith)))
+
+  -- What is said of a section 5 follows from its template and from the test of its limits.
+  pub no-template-refused : templateAt file s ≡ TemplateReading.Bad → representationAt file s ≡ refused s
+  unfolding representationAt
+  no-template-refused read = ap (representedBy file s) read
+
+  pub no-limits-refused : {t : Template} → templateAt file s ≡ TemplateReading.Is t → isScaled file s ≡ false → representationAt file s ≡ refused s
+  unfolding representationAt
+  no-limits-refused {t} read e = ap (representedBy file s) read ∙ rw e
+
+  pub taken : {t : Template} → templateAt file s ≡ TemplateReading.Is t → isScaled file s ≡ true → representationAt file s ≡ Represented.By (representationWith file s t)
+  unfolding representationAt
+  taken {t} read e = ap (representedBy file s) read ∙ rw e

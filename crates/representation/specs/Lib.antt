@@ -1,0 +1,2 @@
+-- What section 5 says.
+pub mod Representation

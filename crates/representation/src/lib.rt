@@ -1,0 +1,222 @@
+// Section 5: how the values of a field are packed (document 01, "Section 5").
+ghost use mathlib.Core.Path.{_≡_};
+ghost use Prim.Native.Nat.{_≤_};
+ghost use Rattle.sections.specs.Sections.{Lies, lengthAt};
+ghost use Rattle.representation.specs.Representation.{refused, isScaled, groupingAt, isDifferenced, isGrouping, complexAt, templateAt, representationAt};
+use octets::FilePlace;
+use octets::OctetNumber;
+use octets::Signed;
+use refusals::Refusal;
+use refusals::Why;
+
+// How the widths of groups are stored: each is the reference and a number of so many bits.
+pub struct Widths {
+    pub reference: u32,
+    pub bits: u32,
+}
+
+// How their lengths are stored: each is the reference and, times the increment, a number of so many bits. That of the last group is told here.
+pub struct Lengths {
+    pub reference: u32,
+    pub increment: u32,
+    pub last: u32,
+    pub bits: u32,
+}
+
+// What template 5.3 says of its groups. The first value, the second and Zmin take `extra` octets each.
+pub struct Grouping {
+    pub groups: u32,
+    pub widths: Widths,
+    pub lengths: Lengths,
+    pub extra: u32,
+}
+
+// The data template: 5.0, simple packing, or 5.3, complex packing with spatial differencing.
+pub enum Template {
+    Simple,
+    Complex(Grouping),
+}
+
+// What section 5 says: N, R by its 32 bits, E, D, octet 20, and the data template.
+pub struct Representation {
+    pub n: u32,
+    pub r: u32,
+    pub e: Signed,
+    pub d: Signed,
+    pub bits: u32,
+    pub template: Template,
+}
+
+pub enum Represented {
+    By(Representation),
+    Refused(Refusal),
+}
+
+pub enum TemplateReading {
+    Is(Template),
+    Bad,
+}
+
+fn refused(place: FilePlace) -> Represented
+    ensures { λ r. ⌜ r ≡ refused (place .0) ⌝ }
+{
+    Represented::Refused(Refusal {
+        why: Why::BadRepresentation,
+        place,
+    })
+}
+
+// Are R, E, D and the bits of a number within their limits?
+fn is_scaled(file: &[u8], at: FilePlace) -> bool
+    requires { ⌜ (Lies (now file) (at .0)) × (21 ≤ lengthAt (now file) (at .0)) ⌝ }
+    ensures { λ r. ⌜ r ≡ isScaled (now (file .entry)) (at .0) ⌝ }
+{
+    if !doubles::is_finite(sections::held(file, at, OctetNumber(12), OctetNumber(15)) as u32) {
+        return false;
+    }
+    let e = sections::held_signed(file, at, OctetNumber(16), OctetNumber(17));
+    if 127 < e.size {
+        return false;
+    }
+    let d = sections::held_signed(file, at, OctetNumber(18), OctetNumber(19));
+    if 22 < d.size {
+        return false;
+    }
+    if 31 < sections::octet(file, at, OctetNumber(20)) {
+        return false;
+    }
+    sections::octet(file, at, OctetNumber(21)) == 0
+}
+
+// What template 5.3 says of its groups, as its octets hold it.
+fn grouping_at(file: &[u8], at: FilePlace) -> Grouping
+    requires { ⌜ (Lies (now file) (at .0)) × (lengthAt (now file) (at .0) ≡ 49) ⌝ }
+    ensures { λ r. ⌜ r ≡ groupingAt (now (file .entry)) (at .0) ⌝ }
+{
+    let widths = Widths {
+        reference: sections::octet(file, at, OctetNumber(36)) as u32,
+        bits: sections::octet(file, at, OctetNumber(37)) as u32,
+    };
+    let lengths = Lengths {
+        reference: sections::held(file, at, OctetNumber(38), OctetNumber(41)) as u32,
+        increment: sections::octet(file, at, OctetNumber(42)) as u32,
+        last: sections::held(file, at, OctetNumber(43), OctetNumber(46)) as u32,
+        bits: sections::octet(file, at, OctetNumber(47)) as u32,
+    };
+    Grouping {
+        groups: sections::held(file, at, OctetNumber(32), OctetNumber(35)) as u32,
+        widths,
+        lengths,
+        extra: sections::octet(file, at, OctetNumber(49)) as u32,
+    }
+}
+
+// Are differences of the second order, with general groups and no values marked as missing?
+fn is_differenced(file: &[u8], at: FilePlace) -> bool
+    requires { ⌜ (Lies (now file) (at .0)) × (lengthAt (now file) (at .0) ≡ 49) ⌝ }
+    ensures { λ r. ⌜ r ≡ isDifferenced (now (file .entry)) (at .0) ⌝ }
+{
+    if sections::octet(file, at, OctetNumber(22)) != 1 {
+        return false;
+    }
+    if sections::octet(file, at, OctetNumber(23)) != 0 {
+        return false;
+    }
+    sections::octet(file, at, OctetNumber(48)) == 2
+}
+
+// Can `n` values be packed in such groups?
+fn is_grouping(grouping: Grouping, n: u32) -> bool
+    ensures { λ r. ⌜ r ≡ isGrouping grouping n ⌝ }
+{
+    let widths = grouping.widths;
+    let lengths = grouping.lengths;
+    if 31 < widths.reference {
+        return false;
+    }
+    if 31 < widths.bits {
+        return false;
+    }
+    if 31 < lengths.bits {
+        return false;
+    }
+    if grouping.extra < 1 {
+        return false;
+    }
+    if 4 < grouping.extra {
+        return false;
+    }
+    if n < 2 {
+        return false;
+    }
+    if grouping.groups < 1 {
+        return false;
+    }
+    grouping.groups <= n
+}
+
+// Template 5.3 in its 49 octets.
+fn complex_at(file: &[u8], at: FilePlace) -> TemplateReading
+    requires { ⌜ (Lies (now file) (at .0)) × (lengthAt (now file) (at .0) ≡ 49) ⌝ }
+    ensures { λ r. ⌜ r ≡ complexAt (now (file .entry)) (at .0) ⌝ }
+{
+    if !is_differenced(file, at) {
+        return TemplateReading::Bad;
+    }
+    let grouping = grouping_at(file, at);
+    if !is_grouping(
+        grouping,
+        sections::held(file, at, OctetNumber(6), OctetNumber(9)) as u32,
+    ) {
+        return TemplateReading::Bad;
+    }
+    TemplateReading::Is(Template::Complex(grouping))
+}
+
+// The data template, by the section's length and octets 10-11.
+fn template_at(file: &[u8], at: FilePlace) -> TemplateReading
+    requires { ⌜ Lies (now file) (at .0) ⌝ }
+    ensures { λ r. ⌜ r ≡ templateAt (now (file .entry)) (at .0) ⌝ }
+{
+    match sections::length_of(file, at) {
+        21 => {
+            if sections::held(file, at, OctetNumber(10), OctetNumber(11)) != 0 {
+                return TemplateReading::Bad;
+            }
+            TemplateReading::Is(Template::Simple)
+        }
+        49 => {
+            if sections::held(file, at, OctetNumber(10), OctetNumber(11)) != 3 {
+                return TemplateReading::Bad;
+            }
+            complex_at(file, at)
+        }
+        _ => TemplateReading::Bad,
+    }
+}
+
+// What the section 5 at `at` says, or refusal 12.
+pub fn representation_at(file: &[u8], at: FilePlace) -> Represented
+    requires { ⌜ Lies (now file) (at .0) ⌝ }
+    ensures { λ r. ⌜ r ≡ representationAt (now (file .entry)) (at .0) ⌝ }
+{
+    let TemplateReading::Is(template) = template_at(file, at) else {
+        return refused(at);
+    };
+    if !is_scaled(file, at) {
+        return refused(at);
+    }
+    let n = sections::held(file, at, OctetNumber(6), OctetNumber(9)) as u32;
+    let r = sections::held(file, at, OctetNumber(12), OctetNumber(15)) as u32;
+    let e = sections::held_signed(file, at, OctetNumber(16), OctetNumber(17));
+    let d = sections::held_signed(file, at, OctetNumber(18), OctetNumber(19));
+    let bits = sections::octet(file, at, OctetNumber(20)) as u32;
+    Represented::By(Representation {
+        n,
+        r,
+        e,
+        d,
+        bits,
+        template,
+    })
+}
