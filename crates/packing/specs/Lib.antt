@@ -1,0 +1,2 @@
+-- What section 7 holds.
+pub mod Packing

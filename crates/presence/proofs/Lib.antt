@@ -1,0 +1,2 @@
+-- What the presence of points tells.
+pub mod Laws

@@ -1,0 +1,2 @@
+-- What section 6 says.
+pub mod Presence
