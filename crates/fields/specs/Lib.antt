@@ -1,0 +1,3 @@
+-- What the questions describe and place are answered.
+pub mod Fields
+pub mod Numbers
