@@ -1,0 +1,2 @@
+-- The laws of the listing, which its functions' proofs cite.
+pub mod Laws

@@ -1,0 +1,2 @@
+-- The laws of text that other crates cite.
+pub mod Laws

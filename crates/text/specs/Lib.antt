@@ -1,0 +1,2 @@
+-- What text in a lent run is.
+pub mod Text

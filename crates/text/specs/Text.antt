@@ -1,0 +1,32 @@
+-- Text as octets in a run that is lent whole: what is put, and where. What lies before and behind it stays as it is.
+use Prim.Native.Nat.{ℕ, zero, suc, _+_, _/_}
+use Prim.Native.Char.{code}
+use Prim.Native.String.{String, [] as noText, _∷_ as _andThen_}
+use mathlib.Core.Path.{_≡_}
+use mathlib.Core.Bool.{cond}
+use mathlib.Core.List.{List, [], _∷_, _++_}
+use lib.Dec.{ltb}
+use lib.ListN.{length, take, drop}
+use Rattle.calendar.specs.Calendar.{digit}
+
+-- The octets of a text: the codes of its characters.
+abbrev pub ascii : String → List ℕ
+ascii noText = []
+ascii (c andThen s) = code c ∷ ascii s
+
+-- A run in which octets are put from place `at` on.
+abbrev pub laid : List ℕ → ℕ → List ℕ → List ℕ
+laid run at octets = take at run ++ octets ++ drop (at + length octets) run
+
+-- What a function that puts octets does to a run, and that it answers the place behind them.
+abbrev pub Puts : List ℕ → ℕ → List ℕ → List ℕ → ℕ → Type 0
+Puts before at octets after behind = (after ≡ laid before at octets) × (behind ≡ at + length octets)
+
+-- The decimal digits of a number that has at most so many: those of its tenth, and then the last one. None in front is 0, but for the number 0.
+unfoldable pub spelt : ℕ → ℕ → List ℕ
+spelt zero n = []
+spelt (suc most) n = cond (ltb n 10) (digit n ∷ []) (spelt most (n / 10) ++ (digit n ∷ []))
+
+-- A number of 64 bits has at most 20 digits.
+abbrev pub decimal : ℕ → List ℕ
+decimal n = spelt 20 n
