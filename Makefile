@@ -1,15 +1,18 @@
 # The targets for daily work. `tools/test` and `tools/sample` need no make.
 .DEFAULT_GOAL := help
-.PHONY: help sample test check lib dev fmt house clean
+.PHONY: help sample test bench check lib dev fmt house clean
 
 help: ## List the targets.
 	@awk -F ':.*## ' '/^[a-z]+:.*## / { printf "  make %-8s %s\n", $$1, $$2 }' $(MAKEFILE_LIST)
 
-sample: ## Check the sample files, and ask the worked examples of the proved leaf layers.
+sample: ## Check and list the sample files, and ask the worked examples of the proved leaf layers.
 	@tools/sample
 
 test: ## Prove every crate, try every must-fail edit, and run every other test: the gate.
 	@tools/test
+
+bench: ## Measure the proved code natively on this machine, and print the times.
+	@bench/run
 
 check: ## Prove what has changed, and run the programs.
 	rt check

@@ -23,10 +23,10 @@ def section1(reference, status=0):
     return section(1, number(34, 2) + number(0, 2) + bytes([2, 1]) + bytes([1]) + reference + bytes([status, 1]))
 
 
-def section3(ni, nj, first, last, di, dj):
-    """Grid 3.0 on the sphere of earth code 6. Places are (latitude, longitude) in millionths of a degree."""
+def section3(ni, nj, first, last, di, dj, radius=None):
+    """Grid 3.0 on the sphere of earth code 6, or of code 1 with a radius. Places are (latitude, longitude) in millionths of a degree."""
     body = bytes([0]) + number(ni * nj, 4) + bytes([0, 0]) + number(0, 2)
-    body += bytes([6]) + b'\xff' * 15
+    body += bytes([6]) + b'\xff' * 15 if radius is None else bytes([1, 0]) + number(radius, 4) + b'\xff' * 10
     body += number(ni, 4) + number(nj, 4) + number(0, 4) + b'\xff' * 4
     body += signed(first[0], 4) + number(first[1], 4) + bytes([0x30]) + signed(last[0], 4) + number(last[1], 4)
     body += number(di, 4) + number(dj, 4) + bytes([0])
@@ -56,15 +56,34 @@ def section5(count, reference, e, d, bits):
     return section(5, number(count, 4) + number(0, 2) + reference + signed(e, 2) + signed(d, 2) + bytes([bits, 0]))
 
 
+def section5_groups(count, reference, e, d, bits, groups, widths, lengths, extra):
+    """Section 5 by template 5.3. Widths are (reference, bits), lengths (reference, increment, last, bits)."""
+    body = number(count, 4) + number(3, 2) + reference + signed(e, 2) + signed(d, 2) + bytes([bits, 0, 1, 0]) + b'\xff' * 8 + number(groups, 4) + bytes(widths)
+    return section(5, body + number(lengths[0], 4) + bytes([lengths[1]]) + number(lengths[2], 4) + bytes([lengths[3], 2, extra]))
+
+
 def section6(indicator, bitmap=b''):
     return section(6, bytes([indicator]) + bitmap)
 
 
-def section7(values, bits):
-    """Section 7 by template 7.0: each value in so many bits, the last octet filled with zeros."""
-    digits = ''.join(format(value, '0%db' % bits) for value in values) if bits else ''
+def packed(*runs):
+    """Runs of values, each run (values, bits), with no gap between them; the last octet is filled with zeros."""
+    digits = ''.join(format(value, '0%db' % bits) for values, bits in runs if bits for value in values)
     digits += '0' * (-len(digits) % 8)
-    return section(7, bytes(int(digits[i:i + 8], 2) for i in range(0, len(digits), 8)))
+    return bytes(int(digits[i:i + 8], 2) for i in range(0, len(digits), 8))
+
+
+def section7(values, bits):
+    """Section 7 by template 7.0: each value in so many bits."""
+    return section(7, packed((values, bits)))
+
+
+def section7_groups(extra, start, references, bits, widths, width_bits, lengths, length_bits, groups):
+    """Section 7 by template 7.3: the first value, the second and Zmin; what is stored of references, widths and lengths; and the values of
+    each group, (values, bits)."""
+    first, second, zmin = start
+    body = number(first, extra) + number(second, extra) + signed(zmin, extra)
+    return section(7, body + packed((references, bits)) + packed((widths, width_bits)) + packed((lengths, length_bits)) + packed(*groups))
 
 
 def message(*sections, discipline=0):
@@ -80,3 +99,14 @@ def two_fields():
         section3(2, 2, (36000000, 135000000), (35000000, 136000000), 1000000, 1000000),
         instant(0, 0, 103, (0, 10), 1, 1), section5(2, zero, 0, 0, 12), section6(0, b'\xa0'), section7([291, 2748], 12),
         interval(time(2017, 5, 15, 13, 0, 0), 1, 1, 1, 1, 8, 1, None, 1, 0), section5(2, zero, 0, 1, 12), section6(254), section7([5, 7], 12))
+
+
+def grouped():
+    """One field of 5.3 over a bitmap: ten values in three groups on a grid of 4 x 3, the last group longer than what is stored for it."""
+    values = [[1, 0, 3], [0, 5, 2, 7], [1, 1, 0]]
+    return message(
+        section1(time(2016, 2, 29, 18, 0, 0), 1),
+        section3(4, 3, (36000000, 358000000), (34000002, 1000001), 1000000, 1000000, radius=6371000),
+        instant(2, 2, 100, (-2, 850), 0, 90),
+        section5_groups(10, bytes.fromhex('c2c80000'), -3, 1, 7, 3, (1, 2), (1, 1, 3, 4), 2), section6(0, b'\xbb\xf0'),
+        section7_groups(2, (50, 49, -7), [3, 100, 0], 7, [1, 2, 0], 2, [2, 3, 9], 4, [(values[0], 2), (values[1], 3), (values[2], 1)]))

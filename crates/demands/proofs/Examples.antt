@@ -14,9 +14,13 @@ examples =
       minusOne = refl;
       minusZero = refl;
       minusTwo = refl;
+      largeBitmap = refl;
+      manyValues = refl;
       firstTwelveBits = refl;
       nextTwelveBits = refl;
       sevenAndAHalf = refl;
       aTenth = refl;
       afterEightyFourHours = refl;
+      firstAndThird = refl;
+      column1421 = λ g first di. rw (first, di);
     }

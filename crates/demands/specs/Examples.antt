@@ -7,12 +7,16 @@ use lib.IntN.{ℤ, pos, negℤ}
 use lib.Ieee.{binary64, ofBits, toBits}
 use Rattle.octets.specs.declared.Signed.{Signed}
 use Rattle.octets.specs.Numbers.{numberAt, signedOf, whole}
-use Rattle.bits.specs.Bits.{bitsAt}
+use Rattle.bits.specs.Bits.{bitAt, bitsAt}
 use Rattle.calendar.specs.declared.Time.{Time}
 use Rattle.calendar.specs.declared.Unit.the-variants as Unit
 use Rattle.calendar.specs.declared.Later.the-variants as Later
 use Rattle.calendar.specs.Calendar.{date, plus}
 use Rattle.doubles.specs.Doubles.{valueOf}
+use Rattle.geometry.specs.declared.Grid.{Grid}
+use Rattle.geometry.specs.Positions.{longitudeOf}
+use Rattle.presence.specs.Presence.{bitmapLength}
+use Rattle.packing.specs.Packing.{simpleLength}
 
 -- The signed number that octets hold.
 abbrev signedIn : List ℕ → ℕ → ℤ
@@ -31,6 +35,9 @@ pub record Examples : Type 0 where
   pub minusOne : signedIn (0x80 ∷ 0x01 ∷ []) 2 ≡ negℤ (pos 1)
   pub minusZero : signedIn (0x80 ∷ 0x00 ∷ []) 2 ≡ pos 0
   pub minusTwo : signedIn (0x82 ∷ []) 1 ≡ negℤ (pos 2)
+  -- The section 6 with a bitmap for 1,514,461 points, and the section 7 with 349,363 values of 12 bits: their lengths.
+  pub largeBitmap : bitmapLength 1514461 ≡ 189314
+  pub manyValues : simpleLength 349363 12 ≡ 524050
   -- Three octets hold two numbers of 12 bits.
   pub firstTwelveBits : bitsAt (0x12 ∷ 0x3a ∷ 0xbc ∷ []) 0 12 ≡ 291
   pub nextTwelveBits : bitsAt (0x12 ∷ 0x3a ∷ 0xbc ∷ []) 12 12 ≡ 2748
@@ -40,3 +47,7 @@ pub record Examples : Type 0 where
   pub aTenth : toBits binary64 (valueOf 0 (plain 0) (plain 1) 1) ≡ 0x3fb9_9999_9999_999a
   -- 84 hours after noon of 15 May 2017 the 19th begins.
   pub afterEightyFourHours : plus (may 15 12) 84 Unit.Hour ≡ Later.At (may 19 0)
+  -- Of four points, the bitmap 0xA0 has the first and the third.
+  pub firstAndThird : bitAt (0xa0 ∷ []) 0 ∷ bitAt (0xa0 ∷ []) 1 ∷ bitAt (0xa0 ∷ []) 2 ∷ bitAt (0xa0 ∷ []) 3 ∷ [] ≡ 1 ∷ 0 ∷ 1 ∷ 0 ∷ []
+  -- On every grid that starts at 116.969697 degrees and goes on by 0.030303, column 1421 lies at 160.030260.
+  pub column1421 : (g : Grid) → g .first .longitude ≡ 116969697 → g .di ≡ 30303 → longitudeOf g 1421 ≡ 160030260

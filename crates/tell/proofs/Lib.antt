@@ -1,0 +1,2 @@
+-- How many numbers are put, and in which order.
+mod Laws

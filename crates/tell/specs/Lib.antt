@@ -1,0 +1,2 @@
+-- What tests are told through C.
+pub mod Tell

@@ -1,0 +1,278 @@
+"""An independent reading of document 01, from its paragraphs: check, describe and place, in Python's own whole numbers and times."""
+import datetime
+import functools
+
+LARGEST = 268435456
+FOLLOWS = {0: {1}, 1: {3}, 3: {4}, 4: {5}, 5: {6}, 6: {7}, 7: {3, 4}}
+UNITS = {0: 60, 1: 3600, 2: 86400}
+TURN = 360000000
+
+
+class Refused(Exception):
+    def __init__(self, number, place):
+        super().__init__('refused %d at %d' % (number, place))
+        self.number, self.place = number, place
+        self.code = 1 << 63 | number << 32 | place
+
+
+# ---- messages and sections
+
+def sections_of_message(file, p):
+    """Steps a to f at p: where the message ends, and its sections in order, each with its number, start and end."""
+    left = len(file) - p
+    if left < 16:
+        raise Refused(3, p)
+    if file[p:p + 4] != b'GRIB' or file[p + 7] != 2:
+        raise Refused(4, p)
+    length = int.from_bytes(file[p + 8:p + 16], 'big')
+    if length < 20:
+        raise Refused(5, p)
+    if length > left:
+        raise Refused(3, p)
+    end = p + length - 4
+    if file[end:end + 4] != b'7777':
+        raise Refused(7, p)
+    at, before, found = p + 16, 0, []
+    while at < end:
+        size = int.from_bytes(file[at:at + 4], 'big')
+        if end - at < 5 or size < 5 or at + size > end:
+            raise Refused(5, at)
+        if file[at + 4] not in FOLLOWS[before]:
+            raise Refused(6, at)
+        before = file[at + 4]
+        found.append((before, at, at + size))
+        at += size
+    if before != 7:
+        raise Refused(6, end)
+    return end + 4, found
+
+
+def messages(file):
+    """The sections of each message of a file."""
+    if len(file) > LARGEST:
+        raise Refused(1, 0)
+    if not file:
+        raise Refused(2, 0)
+    at, found = 0, []
+    while at < len(file):
+        end, sections = sections_of_message(file, at)
+        found.append((at, sections))
+        at = end
+    return found
+
+
+@functools.lru_cache(maxsize=1)
+def fields(file):
+    """Each field of a file: its message's start, its sections by number, and the section 6 that 254 would refer to."""
+    found = []
+    for start, sections in messages(file):
+        force, bitmap = {}, None
+        for number, at, end in sections:
+            if number == 3:
+                bitmap = None
+            if number == 6 and end - at >= 6 and file[at + 5] == 0:
+                bitmap = (at, end)
+            force[number] = (at, end)
+            if number == 7:
+                found.append((start, dict(force), bitmap))
+    return found
+
+
+def check(file):
+    """What skeptolyr_check is to answer."""
+    try:
+        return len(messages(file)) << 32 | len(fields(file))
+    except Refused as refused:
+        return refused.code
+
+
+# ---- numbers
+
+class Octets:
+    """A section's octets, numbered from 1. Asking for one that is not there is a fault of the section."""
+
+    def __init__(self, file, stretch, refusal):
+        self.place, self.octets, self.refusal = stretch[0], file[stretch[0]:stretch[1]], refusal
+
+    def __len__(self):
+        return len(self.octets)
+
+    def __call__(self, first, last=None):
+        last = last or first
+        self.demand(last <= len(self.octets))
+        return int.from_bytes(self.octets[first - 1:last], 'big')
+
+    def signed(self, first, last=None):
+        number, top = self(first, last), 1 << 8 * ((last or first) - first) + 7
+        return number - top and (top - number if number >= top else number)
+
+    def demand(self, holds):
+        if not holds:
+            raise Refused(self.refusal, self.place)
+
+    def time(self, first):
+        """The Gregorian time in seven octets. Python's calendar knows leap years; seconds stop at 59."""
+        self.demand(first + 6 <= len(self.octets))
+        year = self(first, first + 1)
+        self.demand(1900 <= year <= 2399)
+        try:
+            return datetime.datetime(year, *self.octets[first + 1:first + 6])
+        except ValueError:
+            self.demand(False)
+
+    def later(self, time, count, unit):
+        """The time so many units later."""
+        self.demand(unit in UNITS)
+        left = (datetime.datetime(2400, 1, 1) - time) // datetime.timedelta(seconds=1)
+        self.demand(count * UNITS[unit] < left)
+        return time + datetime.timedelta(seconds=count * UNITS[unit])
+
+
+# ---- sections
+
+def identification(file, stretch):
+    s = Octets(file, stretch, 9)
+    s.demand(len(s) == 21 and s(6, 7) == 34 and s(12) == 1 and s(20) in (0, 1))
+    return {'status': s(20), 'reference': s.time(13)}
+
+
+def grid(file, stretch):
+    s = Octets(file, stretch, 10)
+    s.demand(len(s) == 72 and s(6) == s(11) == s(12) == s(13, 14) == 0)
+    s.demand(s(15) == 6 or s(15) == 1 and s(16) == 0 and s(17, 20) not in (0, 2 ** 32 - 1))
+    ni, nj = s(31, 34), s(35, 38)
+    s.demand(1 <= ni <= 65535 and 1 <= nj <= 65535 and s(7, 10) == ni * nj <= 16777216)
+    s.demand(s(39, 42) == 0 and s(43, 46) == 2 ** 32 - 1 and s(55) == 0x30 and s(72) == 0)
+    first, last = (s.signed(47, 50), s(51, 54)), (s.signed(56, 59), s(60, 63))
+    for latitude, longitude in (first, last):
+        s.demand(abs(latitude) <= 90000000 and longitude < TURN)
+    s.demand(first[0] >= last[0])
+    di, dj = s(64, 67), s(68, 71)
+    east = last[1] - first[1] + (TURN if last[1] < first[1] else 0)
+    s.demand(abs(east - (ni - 1) * di) <= ni - 1 and abs(first[0] - last[0] - (nj - 1) * dj) <= nj - 1)
+    return {'earth': s(15), 'radius': 6371229 if s(15) == 6 else s(17, 20), 'ni': ni, 'nj': nj, 'first': first, 'last': last, 'di': di, 'dj': dj}
+
+
+def product(file, stretch, reference):
+    s = Octets(file, stretch, 11)
+    s.demand((s(8, 9), len(s)) in ((0, 34), (8, 58)) and s(6, 7) == 0)
+    s.demand(s(19, 22) <= 2147483647 and s(23) != 255 and s(29, 34) == 2 ** 48 - 1)
+    missing = (s(24) == 255, s(25, 28) == 2 ** 32 - 1)
+    s.demand(missing[0] == missing[1] and (missing[0] or s(25, 28) <= 2147483647))
+    valid = s.later(reference, s(19, 22), s(18))
+    told = {'category': s(10), 'parameter': s(11), 'process': s(12), 'surface': s(23), 'level': None if missing[0] else (s.signed(24), s(25, 28)), 'valid': valid, 'product': None}
+    if s(8, 9) == 8:
+        s.demand(s(42) == 1 and s(47) in (0, 1))
+        end = s.time(35)
+        s.demand(s.later(valid, s(50, 53), s(49)) == end)
+        told['product'] = (end, s(47))
+    return told
+
+
+def representation(file, stretch):
+    s = Octets(file, stretch, 12)
+    s.demand((s(10, 11), len(s)) in ((0, 21), (3, 49)))
+    s.demand(s(12, 15) >> 23 & 255 != 255 and abs(s.signed(16, 17)) <= 127 and abs(s.signed(18, 19)) <= 22 and s(20) <= 31 and s(21) == 0)
+    told = {'n': s(6, 9), 'r': s(12, 15), 'e': s.signed(16, 17), 'd': s.signed(18, 19), 'bits': s(20), 'template': s(10, 11)}
+    if s(10, 11) == 3:
+        s.demand(s(22) == 1 and s(23) == 0 and max(s(36), s(37), s(47)) <= 31 and s(48) == 2 and 1 <= s(49) <= 4)
+        s.demand(told['n'] >= 2 and 1 <= s(32, 35) <= told['n'])
+        told['groups'] = {'count': s(32, 35), 'width': s(36), 'width bits': s(37), 'length': s(38, 41), 'increment': s(42), 'last': s(43, 46), 'length bits': s(47), 'extra': s(49)}
+    return told
+
+
+def presence(file, stretch, bitmap, points, n):
+    """The indicator, and the bits of the points that are present, or None where all are."""
+    s = Octets(file, stretch, 13)
+    indicator = s(6)
+    s.demand(indicator == 0 or len(s) == 6 and indicator in (254, 255))
+    if indicator == 255:
+        s.demand(n == points)
+        return indicator, None
+    s.demand(indicator == 0 or bitmap is not None)
+    start, end = stretch if indicator == 0 else bitmap
+    s.demand(end - start == 6 - -points // 8)
+    bits = bin(int.from_bytes(b'\1' + file[start + 6:end], 'big'))[3:3 + points]
+    s.demand(bits.count('1') == n)
+    return indicator, bits
+
+
+def ceiling(bits):
+    return -(-bits // 8)
+
+
+def bits_of(octets, first, count, width):
+    """Numbers of so many bits each, from an octet's start on."""
+    run = int.from_bytes(octets[first:first + ceiling(count * width)], 'big') >> -count * width % 8
+    return [run >> (count - 1 - i) * width & (1 << width) - 1 for i in range(count)]
+
+
+def packing(file, stretch, told):
+    """Judges section 7. For 5.3 it answers the groups as (width, length)."""
+    s = Octets(file, stretch, 14)
+    if told['template'] == 0:
+        s.demand(len(s) == 5 + ceiling(told['n'] * told['bits']))
+        return None
+    g = told['groups']
+    at, runs = 5 + 3 * g['extra'], []
+    for width in (told['bits'], g['width bits'], g['length bits']):
+        s.demand(at + ceiling(g['count'] * width) <= len(s))
+        runs.append((at, width))
+        at += ceiling(g['count'] * width)
+    widths = [g['width'] + stored for stored in bits_of(s.octets, runs[1][0], g['count'], runs[1][1])]
+    lengths = [g['length'] + g['increment'] * stored for stored in bits_of(s.octets, runs[2][0], g['count'], runs[2][1])]
+    lengths[-1] = g['last']
+    s.demand(max(widths) <= 31 and min(lengths) >= 1 and sum(lengths) == told['n'])
+    s.demand(len(s) == at + ceiling(sum(width * length for width, length in zip(widths, lengths))))
+    return list(zip(widths, lengths))
+
+
+# ---- the questions
+
+def describe(file, k):
+    """All that is said of field k, or the first refusal of 1 to 14."""
+    found = fields(file)
+    if k >= len(found):
+        raise Refused(8, 0)
+    start, sections, bitmap = found[k]
+    told = {'discipline': file[start + 6]}
+    told.update(identification(file, sections[1]))
+    told['grid'] = grid(file, sections[3])
+    told.update(product(file, sections[4], told['reference']))
+    told.update(representation(file, sections[5]))
+    told['indicator'], told['bits present'] = presence(file, sections[6], bitmap, told['grid']['ni'] * told['grid']['nj'], told['n'])
+    packing(file, sections[7], told)
+    told['starts'] = [sections[number][0] for number in (1, 3, 4, 5, 6, 7)]
+    return told
+
+
+def place(file, k, n):
+    """The latitude and the longitude of point n, in millionths of a degree."""
+    g = describe(file, k)['grid']
+    if n >= g['ni'] * g['nj']:
+        raise Refused(17, 0)
+    j, i = divmod(n, g['ni'])
+    return g['first'][0] - j * g['dj'], (g['first'][1] + i * g['di']) % TURN
+
+
+def digits(time):
+    return '%04d%02d%02d%02d%02d%02d' % (time.year, time.month, time.day, time.hour, time.minute, time.second)
+
+
+def listing(file):
+    """What the listing prints."""
+    try:
+        if len(file) > 65536:
+            raise Refused(18, 65536)
+        count = len(fields(file))
+    except Refused as refused:
+        return '%s\n' % refused
+    lines = ['%d fields' % count]
+    for k in range(count):
+        try:
+            told = describe(file, k)
+            end = told['product'][0] if told['product'] else told['valid']
+            lines.append('%d %d/%d/%d %d %dx%d %s %d' % (k, told['discipline'], told['category'], told['parameter'], told['surface'], told['grid']['ni'], told['grid']['nj'], digits(end), told['n']))
+        except Refused as refused:
+            lines.append('%d %s' % (k, refused))
+    return ''.join(line + '\n' for line in lines)
