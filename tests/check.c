@@ -4,13 +4,11 @@
  * counting most. A hole is a stretch that check has no business with. The file is lent twice: with an unreadable page right before its first
  * octet, and right behind its last. Each page that lies in a hole is unreadable too. So a read outside the file, or in a hole, ends the
  * program; and both answers must be the same. */
+#include "lent.h"
 #include "skeptolyr.h"
 
 #include <inttypes.h>
-#include <stdio.h>
-#include <stdlib.h>
 #include <string.h>
-#include <sys/mman.h>
 #include <unistd.h>
 
 enum { MOST_HOLES = 64, PAGES = 32 };
@@ -20,32 +18,6 @@ struct hole {
 };
 
 static size_t page;
-
-static void give_up(const char *what)
-{
-    perror(what);
-    exit(2);
-}
-
-/* Readable memory of so many pages between two that cannot be read. */
-static uint8_t *between_guards(size_t pages)
-{
-    uint8_t *base = mmap(NULL, (pages + 2) * page, PROT_NONE, MAP_PRIVATE | MAP_ANONYMOUS, -1, 0);
-    if (base == MAP_FAILED || mprotect(base + page, pages * page, PROT_READ | PROT_WRITE) != 0)
-        give_up("check: memory");
-    return base + page;
-}
-
-static int get_number(uint64_t *number)
-{
-    uint8_t octets[8];
-    if (fread(octets, 1, sizeof octets, stdin) != sizeof octets)
-        return 0;
-    *number = 0;
-    for (size_t i = 0; i < sizeof octets; i++)
-        *number = *number * 256 + octets[i];
-    return 1;
-}
 
 /* What check answers for a file at `file`, with the pages that lie in its holes unreadable meanwhile. */
 static uint64_t answer(uint8_t *file, size_t length, const struct hole *holes, size_t count)
@@ -70,7 +42,7 @@ int main(void)
     struct hole holes[MOST_HOLES];
     page = (size_t)sysconf(_SC_PAGESIZE);
     size_t room = PAGES * page;
-    uint8_t *memory = between_guards(PAGES);
+    uint8_t *memory = between_guards(room, page);
 
     while (get_number(&length)) {
         if (!get_number(&count) || length > room || count > MOST_HOLES) {

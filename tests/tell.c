@@ -4,12 +4,10 @@
  * counting most. The length 2^64 - 1 stands for the file of the question before. An answer is a refusal's code, or its numbers. The file is
  * lent twice: with an unreadable page right before its first octet, and right behind its last. Both answers must be the same, and what is
  * not theirs in the lent run must stay as it was. */
+#include "lent.h"
+
 #include <inttypes.h>
-#include <stdint.h>
-#include <stdio.h>
-#include <stdlib.h>
 #include <string.h>
-#include <sys/mman.h>
 #include <unistd.h>
 
 enum { ROOM = 64, DESCRIBE = 1 };
@@ -26,32 +24,6 @@ struct question {
 struct answer {
     uint64_t code, run[ROOM];
 };
-
-static void give_up(const char *what)
-{
-    perror(what);
-    exit(2);
-}
-
-/* Readable memory of so many octets, or a little more, between two pages that cannot be read. */
-static uint8_t *between_guards(size_t room, size_t page)
-{
-    uint8_t *base = mmap(NULL, room + 2 * page, PROT_NONE, MAP_PRIVATE | MAP_ANONYMOUS, -1, 0);
-    if (base == MAP_FAILED || mprotect(base + page, room, PROT_READ | PROT_WRITE) != 0)
-        give_up("tell: memory");
-    return base + page;
-}
-
-static int get_number(uint64_t *number)
-{
-    uint8_t octets[8];
-    if (fread(octets, 1, sizeof octets, stdin) != sizeof octets)
-        return 0;
-    *number = 0;
-    for (size_t i = 0; i < sizeof octets; i++)
-        *number = *number * 256 + octets[i];
-    return 1;
-}
 
 /* The answer for a file at `file`. Past its own numbers, and behind a refusal everywhere, the run must be untouched. */
 static struct answer ask(struct question q, const uint8_t *file, size_t length)
