@@ -5,10 +5,12 @@ use Rattle.octets.specs.Numbers.{numberAt}
 use Rattle.bits.specs.Bits.{bitAt, bitsAt}
 use Rattle.calendar.specs.Calendar.{isLeap, monthLength, tomorrow, daysAfter}
 use Rattle.doubles.specs.Doubles.{valueOf}
+use Rattle.packing.specs.Packing.{valuesBefore, bitsBefore}
+use Rattle.integers.specs.Integers.{groupAmong, storedAt, integer}
 use Rattle.demands.specs.Examples.{Examples}
 
 pub examples : Examples
-unfolding numberAt bitAt bitsAt isLeap monthLength tomorrow daysAfter valueOf add mul div ofInt ofBits toBits
+unfolding numberAt bitAt bitsAt isLeap monthLength tomorrow daysAfter valuesBefore bitsBefore groupAmong storedAt integer valueOf add mul div ofInt ofBits toBits
 examples =
     record {
       minusOne = refl;
@@ -18,6 +20,7 @@ examples =
       manyValues = refl;
       firstTwelveBits = refl;
       nextTwelveBits = refl;
+      secondDifferences = refl;
       sevenAndAHalf = refl;
       aTenth = refl;
       afterEightyFourHours = refl;

@@ -16,7 +16,9 @@ use Rattle.doubles.specs.Doubles.{valueOf}
 use Rattle.geometry.specs.declared.Grid.{Grid}
 use Rattle.geometry.specs.Positions.{longitudeOf}
 use Rattle.presence.specs.Presence.{bitmapLength}
-use Rattle.packing.specs.Packing.{simpleLength}
+use Rattle.representation.specs.declared.Grouping.{Grouping}
+use Rattle.packing.specs.Packing.{simpleLength, differencingAt, layoutOf}
+use Rattle.integers.specs.Integers.{storedAt, integer}
 
 -- The signed number that octets hold.
 abbrev signedIn : List ℕ → ℕ → ℤ
@@ -25,6 +27,17 @@ signedIn octets n = whole (signedOf n (numberAt octets 0 n))
 -- E or D, where it is not below 0.
 abbrev plain : ℕ → Signed
 plain size = record { negative = false; size = size }
+
+-- A section 7 of nine octets: its length and number, the first value 5, the second 7 and Zmin -1 in one octet each, and then the values 0, 0, 3
+-- and 1 of one group, in two bits each. The group's reference is 0, and none of its numbers takes a bit.
+abbrev section7 : List ℕ
+section7 = 0 ∷ 0 ∷ 0 ∷ 9 ∷ 7 ∷ 5 ∷ 7 ∷ 0x81 ∷ 0x0d ∷ []
+
+abbrev oneGroup : Grouping
+oneGroup = record { groups = 1; widths = record { reference = 2; bits = 0 }; lengths = record { reference = 0; increment = 0; last = 4; bits = 0 }; extra = 1 }
+
+abbrev integerOf : ℕ → ℤ
+integerOf m = integer (differencingAt section7 0 1) (storedAt section7 (layoutOf 0 oneGroup) 0 oneGroup) m
 
 -- 2017-05, at a full hour.
 abbrev may : ℕ → ℕ → Time
@@ -41,6 +54,8 @@ pub record Examples : Type 0 where
   -- Three octets hold two numbers of 12 bits.
   pub firstTwelveBits : bitsAt (0x12 ∷ 0x3a ∷ 0xbc ∷ []) 0 12 ≡ 291
   pub nextTwelveBits : bitsAt (0x12 ∷ 0x3a ∷ 0xbc ∷ []) 12 12 ≡ 2748
+  -- Second differences: the integers of the section above.
+  pub secondDifferences : integerOf 0 ∷ integerOf 1 ∷ integerOf 2 ∷ integerOf 3 ∷ [] ≡ pos 5 ∷ pos 7 ∷ pos 11 ∷ pos 15 ∷ []
   -- R 1.5, E 1, D 0 and X 3 make 7.5. The single 1.5 is 3FC00000, and the double 7.5 is 401E000000000000.
   pub sevenAndAHalf : valueOf 0x3fc0_0000 (plain 1) (plain 0) 3 ≡ ofBits binary64 0x401e_0000_0000_0000
   -- R 0, E 0, D 1 and X 1 make the double nearest to a tenth.

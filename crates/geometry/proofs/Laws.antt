@@ -3,13 +3,13 @@ use mathlib.Core.Path.{_≡_, sym, ap, _∙_}
 use mathlib.Core.Bool.{Bool, true, false}
 use mathlib.Core.Logic.{_↔_}
 use Prim.Native.Nat.{ℕ, zero, suc, _+_, _-_, _*_, _≤_}
-use native.Mathlib.Nat.{add-suc}
 use native.Mathlib.Omega.{arith}
-use borrow.Author.Tests.{lt-ltb, le-ltb, ltb-true, ltb-false}
+use borrow.Author.Tests.{ltb-true, ltb-false}
 use lib.Dec.{ltb, leb→le, le→leb}
-use lib.IntN.{ℤ, pos, negsuc, negℤ, _+ℤ_, _-ℤ_, negℤ-+ℤ, +ℤ-assoc}
+use lib.IntN.{ℤ, pos, _-ℤ_}
 use lib.Signed.{_≤ℤ_, leZ-yes}
 use Rattle.octets.proofs.Cases.{split, both}
+use Rattle.octets.proofs.Whole.{minus-less, minus-more, minus-sum}
 use Rattle.octets.specs.declared.Signed.{Signed}
 use Rattle.octets.specs.Numbers.{whole, wholeOf}
 use Rattle.geometry.specs.declared.Grid.{Grid}
@@ -34,18 +34,6 @@ pub taken-counts : (g : Grid) (points : ℕ) → isTaken g points ≡ true → (
 taken-counts g points e =
     let count = counted g points (both _ _ (both _ _ e .0) .0) in
     (count .columns1, count .columns65535, count .rows1, count .rows65535)
-
--- A number less another that is smaller, less another that is larger, and less a sum.
-minus-less : (m n : ℕ) → n ≤ m → pos m -ℤ pos n ≡ pos (m - n)
-minus-less m zero h = ap pos (omega arith)
-minus-less m (suc n) h = rw (le-ltb m (suc n) h)
-
-minus-more : (m n : ℕ) → pos m -ℤ pos (m + n) ≡ wholeOf true n
-minus-more m zero = minus-less m (m + 0) (omega arith) ∙ ap pos (omega arith)
-minus-more m (suc n) = rw (add-suc m n, lt-ltb m (suc (m + n)) (omega arith)) (ap negsuc (omega arith))
-
-minus-sum : (z : ℤ) (m n : ℕ) → z -ℤ pos (m + n) ≡ z -ℤ pos m -ℤ pos n
-minus-sum z m n = ap (λ (k : ℤ). z +ℤ k) (negℤ-+ℤ (pos m) (pos n)) ∙ sym (+ℤ-assoc z (negℤ (pos m)) (negℤ (pos n)))
 
 -- The latitude so far south of the north pole is 90,000,000 less so much.
 latitude-at-is : (south : ℕ) → whole (latitudeAt south) ≡ pos 90000000 -ℤ pos south

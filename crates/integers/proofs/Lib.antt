@@ -1,0 +1,3 @@
+-- The integers that the code works out are the standard's.
+pub mod Joined
+pub mod Groups
