@@ -24,7 +24,8 @@ simpleLength n bits = 5 + octetsOf (n * bits)
 abbrev pub differencingAt : List ℕ → ℕ → ℕ → Differencing
 differencingAt file s w = record { first = held file s 6 (5 + w); second = held file s (6 + w) (5 + 2 * w); zmin = heldSigned file s (6 + 2 * w) (5 + 3 * w) }
 
--- Behind these stand the references of all groups, their widths, their scaled lengths, and the packed values. Each of these four runs starts on a new octet: these are their numbers.
+-- Behind these stand the references of all groups, their widths, their scaled lengths, and the packed values. Each of these four runs starts
+-- on a new octet: these are the octets' numbers.
 module _ (bits : ℕ) (g : Grouping) where
   abbrev pub referencesFrom : ℕ
   referencesFrom = 6 + 3 * g .extra
