@@ -63,13 +63,13 @@ pub fn header_at(file: &[u8], at: FilePlace) -> Header
     if left < 16 {
         return bad(Why::Cut, at);
     }
-    if octets::number_at(file, octets::place_of(at, OctetNumber(1)), 4) != 0x4752_4942 {
+    if sections::held(file, at, OctetNumber(1), OctetNumber(4)) != 0x4752_4942 {
         return bad(Why::NotGrib2, at);
     }
-    if octets::number_at(file, octets::place_of(at, OctetNumber(8)), 1) != 2 {
+    if sections::held(file, at, OctetNumber(8), OctetNumber(8)) != 2 {
         return bad(Why::NotGrib2, at);
     }
-    let length = octets::number_at(file, octets::place_of(at, OctetNumber(9)), 8) as usize;
+    let length = sections::held(file, at, OctetNumber(9), OctetNumber(16)) as usize;
     if length < 20 {
         return bad(Why::BadLength, at);
     }

@@ -98,16 +98,14 @@ pub fn section_at(file: &[u8], at: FilePlace, end: FilePlace, after: u8) -> Sect
     if left < 5 {
         return bad(Why::BadLength, at);
     }
-    let length = octets::number_at(file, octets::place_of(at, OctetNumber(1)), 4) as usize;
+    let length = sections::length_of(file, at);
     if length < 5 {
         return bad(Why::BadLength, at);
     }
     if left < length {
         return bad(Why::BadLength, at);
     }
-    let fifth = octets::place_of(at, OctetNumber(5));
-    let i = fifth.0;
-    let number = file[i];
+    let number = sections::octet(file, at, OctetNumber(5));
     if may_follow(after, number) {
         let next = FilePlace(at.0 + length);
         Section::Next { number, next }
@@ -124,9 +122,11 @@ fn bitmap_behind(file: &[u8], bitmap: Bitmap, at: FilePlace, next: FilePlace) ->
     if next.0 - at.0 < 6 {
         return bitmap;
     }
-    let sixth = octets::place_of(at, OctetNumber(6));
-    let i = sixth.0;
-    if file[i] == 0 { Bitmap::At(at) } else { bitmap }
+    if sections::octet(file, at, OctetNumber(6)) == 0 {
+        Bitmap::At(at)
+    } else {
+        bitmap
+    }
 }
 
 // The bitmap in force behind a section numbered `number`, from `at` up to `next`.

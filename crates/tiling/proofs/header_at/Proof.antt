@@ -3,7 +3,7 @@
 use mathlib.Core.Path.{_≡_, sym, _∙_}
 use native.Mathlib.Omega.{arith}
 use borrow.Author.Needs.{needs}
-use Rattle.tiling.specs.Tiling.{markAt, editionAt, statedAt, lastAt}
+use Rattle.tiling.specs.Tiling.{lastAt}
 use Rattle.tiling.specs.Heads.{Opens, Holds, few, strange, short, long, endless, headed}
 use Rattle.tiling.proofs.Laws.{heads-only}
 use Rattle.tiling.proofs.header_at.Statement.{statement}
@@ -18,81 +18,51 @@ bad-requires c κs = search needs
 returns : tie.Need-returns
 returns c = c .bad .ensures ∙ sym (heads-only _ _ (few (omega arith)))
 
-place-of-requires : tie.Need-place-of-requires
-place-of-requires c κs = search needs
-
-number-at-requires : tie.Need-number-at-requires
-number-at-requires c κs = search needs
-
--- The numbers that `number_at` has read are the header's.
-mark : (c : tie.After-number-at) →
-    let a = c .before .before .before .before .before .args in
-    c .number-at .result ≡ markAt (a .file .now) (a .at .0)
-mark c = rw (c .before .place-of .ensures) at (c .number-at .ensures .0)
-
-edition : (c : tie.After-number-at2) →
-    let a = c .before .before .before .before .before .before .before .before .args in
-    c .number-at2 .result ≡ editionAt (a .file .now) (a .at .0)
-edition c = rw (c .before .place-of2 .ensures) at (c .number-at2 .ensures .0)
-
-stated : (c : tie.After-number-at3) →
-    let a = c .before .before .before .before .before .before .before .before .before .before .before .args in
-    c .number-at3 .result ≡ statedAt (a .file .now) (a .at .0)
-stated c = rw (c .before .place-of3 .ensures) at (c .number-at3 .ensures .0)
-
-last : (c : tie.After-number-at4) →
-    let a = c .before .before .before .before .before .before .before .before .before .before .before .before .before .before .before .args in
-    c .number-at4 .result ≡ lastAt (a .file .now) (a .at .0)
-last c = rw (stated (c .before .before .before .before)) at (c .number-at4 .ensures .0)
+held-requires : tie.Need-held-requires
+held-requires c κs = search needs
 
 bad-requires-2 : tie.Need-bad-requires-2
 bad-requires-2 c κs = search needs
 
 returns-2 : tie.Need-returns-2
-returns-2 c = c .bad2 .ensures ∙ sym (heads-only _ _ (strange (omega arith) (λ opens. c .before .if2 .taken (mark (c .before .before) ∙ opens .mark))))
+returns-2 c = c .bad2 .ensures ∙ sym (heads-only _ _ (strange (omega arith) (λ opens. c .before .if2 .taken (c .before .before .held .ensures .0 ∙ opens .mark))))
 
-place-of-requires-2 : tie.Need-place-of-requires-2
-place-of-requires-2 c κs = search needs
-
-number-at-requires-2 : tie.Need-number-at-requires-2
-number-at-requires-2 c κs = search needs
+held-requires-2 : tie.Need-held-requires-2
+held-requires-2 c κs = search needs
 
 bad-requires-3 : tie.Need-bad-requires-3
 bad-requires-3 c κs = search needs
 
 returns-3 : tie.Need-returns-3
-returns-3 c = c .bad3 .ensures ∙ sym (heads-only _ _ (strange (omega arith) (λ opens. c .before .if3 .taken (edition (c .before .before) ∙ opens .edition))))
+returns-3 c = c .bad3 .ensures ∙ sym (heads-only _ _ (strange (omega arith) (λ opens. c .before .if3 .taken (c .before .before .held2 .ensures .0 ∙ opens .edition))))
 
-place-of-requires-3 : tie.Need-place-of-requires-3
-place-of-requires-3 c κs = search needs
-
-number-at-requires-3 : tie.Need-number-at-requires-3
-number-at-requires-3 c κs = search needs
+held-requires-3 : tie.Need-held-requires-3
+held-requires-3 c κs = search needs
 
 -- Steps a and b are passed.
 opens : (c : tie.Else3) →
-    let a = c .before .before .before .before .before .before .before .before .before .args in
+    let a = c .before .before .before .before .before .before .before .args in
     Opens (a .file .now) (a .at .0)
 opens c =
     record {
       there = omega arith;
-      mark = sym (mark (c .before .before .before .before)) ∙ c .before .before .before .if2 .left;
-      edition = sym (edition (c .before)) ∙ c .if3 .left;
+      mark = sym (c .before .before .before .held .ensures .0) ∙ c .before .before .if2 .left;
+      edition = sym (c .before .held2 .ensures .0) ∙ c .if3 .left;
     }
 
 bad-requires-4 : tie.Need-bad-requires-4
 bad-requires-4 c κs = search needs
 
 returns-4 : tie.Need-returns-4
-returns-4 c = c .bad4 .ensures ∙ sym (heads-only _ _ (short (opens (c .before .before .before .before)) (omega (arith, stated (c .before .before)))))
+returns-4 c = c .bad4 .ensures ∙ sym (heads-only _ _ (short (opens (c .before .before .before)) (omega (arith, c .before .before .held3 .ensures .0))))
 
 bad-requires-5 : tie.Need-bad-requires-5
 bad-requires-5 c κs = search needs
 
 returns-5 : tie.Need-returns-5
 returns-5 c =
-    let length = stated (c .before .before .before) in
-    c .bad5 .ensures ∙ sym (heads-only _ _ (long (opens (c .before .before .before .before .before)) (omega arith) (omega arith)))
+    let length = c .before .before .before .held3 .ensures .0 in
+    c .bad5 .ensures ∙ sym (heads-only _ _ (long (opens (c .before .before .before .before)) (omega arith) (omega arith)))
 
 sub-t6 : tie.Need-sub-t6
 sub-t6 c = search needs
@@ -100,16 +70,22 @@ sub-t6 c = search needs
 add-t16 : tie.Need-add-t16
 add-t16 c = search needs
 
-number-at-requires-4 : tie.Need-number-at-requires-4
-number-at-requires-4 c κs = search needs
+number-at-requires : tie.Need-number-at-requires
+number-at-requires c κs = search needs
 
 -- So are steps c and d.
 holds : (c : tie.Else5) →
-    let a = c .before .before .before .before .before .before .before .before .before .before .before .before .before .args in
+    let a = c .before .before .before .before .before .before .before .before .before .before .args in
     Holds (a .file .now) (a .at .0)
 holds c =
-    let length = stated (c .before .before) in
-    record { opens = opens (c .before .before .before .before); least = omega arith; there = omega arith }
+    let length = c .before .before .held3 .ensures .0 in
+    record { opens = opens (c .before .before .before); least = omega arith; there = omega arith }
+
+-- The last four octets that are read are the message's.
+last : (c : tie.After-number-at) →
+    let a = c .before .before .before .before .before .before .before .before .before .before .before .before .args in
+    c .number-at .result ≡ lastAt (a .file .now) (a .at .0)
+last c = rw (c .before .before .before .before .held3 .ensures .0) at (c .number-at .ensures .0)
 
 bad-requires-6 : tie.Need-bad-requires-6
 bad-requires-6 c κs = search needs
@@ -121,7 +97,7 @@ returns-6 c =
 
 returns-7 : tie.Need-returns-7
 returns-7 c =
-    rw (stated (c .before .before .before .before .before))
+    rw (c .before .before .before .before .before .held3 .ensures .0)
     (sym (heads-only _ _ (headed (holds (c .before .before .before)) (sym (last (c .before)) ∙ c .if6 .left))))
 
 pub header-at-spec : {M : Type 1} → statement M
@@ -131,23 +107,20 @@ header-at-spec =
     sub-left
     bad-requires
     returns
-    place-of-requires
-    number-at-requires
+    held-requires
     bad-requires-2
     returns-2
-    place-of-requires-2
-    number-at-requires-2
+    held-requires-2
     bad-requires-3
     returns-3
-    place-of-requires-3
-    number-at-requires-3
+    held-requires-3
     bad-requires-4
     returns-4
     bad-requires-5
     returns-5
     sub-t6
     add-t16
-    number-at-requires-4
+    number-at-requires
     bad-requires-6
     returns-6
     returns-7)

@@ -10,19 +10,16 @@ sub-if1 c = search needs
 returns : tie.Need-returns
 returns c = simp (lt-leb _ _ (c .if1 .taken))
 
-place-of-requires : tie.Need-place-of-requires
-place-of-requires c κs = search needs
-
-shared-slice-read-if2 : tie.Need-shared-slice-read-if2
-shared-slice-read-if2 c = search needs
+octet-requires : tie.Need-octet-requires
+octet-requires c κs = search needs
 
 returns-2 : tie.Need-returns-2
-returns-2 c = simp (le-leb _ _ (c .before .before .before .if1 .left), ← c .before .before .place-of .ensures, eq-eqb _ _ (c .if2 .taken))
+returns-2 c = simp (le-leb _ _ (c .before .before .if1 .left), ← c .before .octet .ensures .0, eq-eqb _ _ (c .if2 .taken))
 
 returns-3 : tie.Need-returns-3
-returns-3 c = simp (le-leb _ _ (c .before .before .before .if1 .left), ← c .before .before .place-of .ensures, ne-eqb _ _ (c .if2 .left))
+returns-3 c = simp (le-leb _ _ (c .before .before .if1 .left), ← c .before .octet .ensures .0, ne-eqb _ _ (c .if2 .left))
 
 pub bitmap-behind-spec : {M : Type 1} → statement M
 bitmap-behind-spec =
     tie.close
-    (tie.spec sub-if1 returns place-of-requires shared-slice-read-if2 returns-2 returns-3)
+    (tie.spec sub-if1 returns octet-requires returns-2 returns-3)

@@ -3,7 +3,7 @@
 use mathlib.Core.Path.{_≡_, sym, _∙_}
 use native.Mathlib.Omega.{arith}
 use borrow.Author.Needs.{needs}
-use Rattle.sections.specs.Sections.{lengthAt, kindAt}
+use Rattle.sections.specs.Sections.{kindAt}
 use Rattle.walk.specs.Walk.{follows}
 use Rattle.walk.specs.Stands.{Fits, ends, unfinished, misfit, strange, next}
 use Rattle.walk.proofs.Laws.{stands-only}
@@ -28,66 +28,54 @@ bad-requires-2 c κs = search needs
 returns-3 : tie.Need-returns-3
 returns-3 c = c .bad2 .ensures ∙ sym (stands-only _ _ _ _ (misfit (omega arith) (λ fits. omega arith)))
 
-place-of-requires : tie.Need-place-of-requires
-place-of-requires c κs = search needs
-
-number-at-requires : tie.Need-number-at-requires
-number-at-requires c κs = search needs
-
--- The length that `number_at` has read is the section's.
-stated : (c : tie.After-number-at) →
-    let a = c .before .before .before .before .before .before .before .args in
-    c .number-at .result ≡ lengthAt (a .file .now) (a .at .0)
-stated c = rw (c .before .place-of .ensures) at (c .number-at .ensures .0)
+length-of-requires : tie.Need-length-of-requires
+length-of-requires c κs = search needs
 
 bad-requires-3 : tie.Need-bad-requires-3
 bad-requires-3 c κs = search needs
 
 returns-4 : tie.Need-returns-4
-returns-4 c = c .bad3 .ensures ∙ sym (stands-only _ _ _ _ (misfit (omega arith) (λ fits. omega (arith, stated (c .before .before)))))
+returns-4 c = c .bad3 .ensures ∙ sym (stands-only _ _ _ _ (misfit (omega arith) (λ fits. omega (arith, c .before .before .length-of .ensures))))
 
 bad-requires-4 : tie.Need-bad-requires-4
 bad-requires-4 c κs = search needs
 
 returns-5 : tie.Need-returns-5
-returns-5 c = c .bad4 .ensures ∙ sym (stands-only _ _ _ _ (misfit (omega arith) (λ fits. omega (arith, stated (c .before .before .before)))))
+returns-5 c = c .bad4 .ensures ∙ sym (stands-only _ _ _ _ (misfit (omega arith) (λ fits. omega (arith, c .before .before .before .length-of .ensures))))
 
-place-of-requires-2 : tie.Need-place-of-requires-2
-place-of-requires-2 c κs = search needs
-
-shared-slice-read-number : tie.Need-shared-slice-read-number
-shared-slice-read-number c = search needs
+octet-requires : tie.Need-octet-requires
+octet-requires c κs = search needs
 
 may-follow-requires : tie.Need-may-follow-requires
 may-follow-requires c κs = search needs
 
-add-t24 : tie.Need-add-t24
-add-t24 c = search needs
+add-t18 : tie.Need-add-t18
+add-t18 c = search needs
 
 bad-requires-5 : tie.Need-bad-requires-5
 bad-requires-5 c κs = search needs
 
 -- Past all tests of the length, a section fits.
 fits : (c : tie.Else5) →
-    let a = c .before .before .before .before .before .before .before .before .before .args in
+    let a = c .before .before .before .before .before .before .before .before .args in
     Fits (a .file .now) (a .at .0) (a .end .0)
-fits c = let length = stated (c .before .before) in record { least = omega arith; room = omega arith }
+fits c = let length = c .before .before .length-of .ensures .0 in record { least = omega arith; room = omega arith }
 
 -- What `may_follow` has said of the section's number.
 said : (c : tie.After-may-follow) →
-    let a = c .before .before .before .before .before .before .before .before .before .before .before .before .args in
+    let a = c .before .before .before .before .before .before .before .before .before .before .args in
     c .may-follow .result ≡ follows (a .after) (kindAt (a .file .now) (a .at .0))
-said c = rw (c .before .before .place-of2 .ensures) at (c .may-follow .ensures)
+said c = rw (c .before .octet .ensures .0) at (c .may-follow .ensures)
 
 returns-6 : tie.Need-returns-6
 returns-6 c =
-    rw (c .before .before .before .before .place-of2 .ensures, stated (c .before .before .before .before .before .before .before))
-    (sym (stands-only _ _ _ _ (next (fits (c .before .before .before .before .before)) (sym (said (c .before .before)) ∙ c .before .if6 .taken))))
+    rw (c .before .before .before .octet .ensures .0, c .before .before .before .before .before .before .length-of .ensures .0)
+    (sym (stands-only _ _ _ _ (next (fits (c .before .before .before .before)) (sym (said (c .before .before)) ∙ c .before .if6 .taken))))
 
 returns-7 : tie.Need-returns-7
 returns-7 c =
     c .bad5 .ensures
-    ∙ sym (stands-only _ _ _ _ (strange (fits (c .before .before .before .before .before)) (sym (said (c .before .before)) ∙ c .before .if6 .left)))
+    ∙ sym (stands-only _ _ _ _ (strange (fits (c .before .before .before .before)) (sym (said (c .before .before)) ∙ c .before .if6 .left)))
 
 pub section-at-spec : {M : Type 1} → statement M
 section-at-spec =
@@ -99,16 +87,14 @@ section-at-spec =
     returns-2
     bad-requires-2
     returns-3
-    place-of-requires
-    number-at-requires
+    length-of-requires
     bad-requires-3
     returns-4
     bad-requires-4
     returns-5
-    place-of-requires-2
-    shared-slice-read-number
+    octet-requires
     may-follow-requires
-    add-t24
+    add-t18
     bad-requires-5
     returns-6
     returns-7)
