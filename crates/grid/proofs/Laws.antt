@@ -1,10 +1,10 @@
 -- What is known of a grid that a section 3 describes: its numbers have passed the tests of a grid.
 use mathlib.Core.Path.{_≡_, refl, sym, _∙_, subst}
-use mathlib.Core.Bool.{Bool, true, false, _&&_, cond}
+use mathlib.Core.Bool.{true, _&&_}
 use mathlib.Core.List.{List}
 use Prim.Native.Nat.{ℕ, _*_, _≤_}
 use native.Mathlib.Omega.{arith}
-use Rattle.octets.proofs.Cases.{split}
+use Rattle.octets.proofs.Cases.{split, chosen}
 use Rattle.sections.specs.Sections.{held}
 use Rattle.refusals.specs.declared.Refusal.{Refusal}
 use Rattle.geometry.specs.declared.Grid.{Grid}
@@ -62,15 +62,11 @@ abbrev StandsAt : ℕ → Gridded → Type 0
 StandsAt s (Gridded.On g) = Unit {0}
 StandsAt s (Gridded.Refused r) = r .place .0 ≡ s
 
-tested-stands : (s : ℕ) (test : Bool) (answer : Gridded) → StandsAt s answer → StandsAt s (cond test answer (refused s))
-tested-stands s true answer stands = stands
-tested-stands s false answer stands = refl
-
 radius-stands : (file : List ℕ) (s : ℕ) (radius : Radius) → StandsAt s (ofRadius file s radius)
-radius-stands file s (Radius.Metres radius) = tested-stands s (isTaken (numbersAt file s radius) (held file s 7 10)) _ tt
+radius-stands file s (Radius.Metres radius) = chosen (StandsAt s) (isTaken (numbersAt file s radius) (held file s 7 10)) (Gridded.On (numbersAt file s radius)) (refused s) tt refl
 radius-stands file s Radius.Unknown = refl
 
 pub refused-place : (file : List ℕ) (s : ℕ) {r : Refusal} → gridAt file s ≡ Gridded.Refused r → r .place .0 ≡ s
 unfolding gridAt
 refused-place file s said =
-    subst (StandsAt s) said (tested-stands s (isRegular file s && isScanned file s) _ (radius-stands file s (radiusAt file s)))
+    subst (StandsAt s) said (chosen (StandsAt s) (isRegular file s && isScanned file s) (ofRadius file s (radiusAt file s)) (refused s) (radius-stands file s (radiusAt file s)) refl)

@@ -1,13 +1,13 @@
 -- The test of section 1 holds exactly for the octets that every section 1 has, and a time that is told is Gregorian.
 use mathlib.Core.Path.{_≡_, refl, sym, ap, subst, _∙_}
-use mathlib.Core.Bool.{Bool, true, false, cond}
+use mathlib.Core.Bool.{true, false}
 use mathlib.Core.List.{List}
 use Prim.Native.Nat.{ℕ, _≤_}
 use native.Mathlib.Omega.{arith}
 use borrow.Author.Tests.{eqb-true, leb-true, eq-eqb}
 use lib.Dec.{eqb, leb}
 use Rattle.octets.specs.Places.{placeOf}
-use Rattle.octets.proofs.Cases.{split, both}
+use Rattle.octets.proofs.Cases.{split, both, chosen}
 use Rattle.sections.specs.Sections.{octet, held, lengthAt}
 use Rattle.refusals.specs.declared.Refusal.{Refusal}
 use Rattle.calendar.specs.declared.Reading.{Reading}
@@ -72,10 +72,6 @@ abbrev StandsAt : ℕ → Identified → Type 0
 StandsAt s (Identified.As i) = Unit {0}
 StandsAt s (Identified.Refused r) = r .place .0 ≡ s
 
-tested-stands : (s : ℕ) (test : Bool) (answer : Identified) → StandsAt s answer → StandsAt s (cond test answer (refused s))
-tested-stands s true answer stands = stands
-tested-stands s false answer stands = refl
-
 timed-stands : (file : List ℕ) (s : ℕ) (time : Reading) → StandsAt s (timed file s time)
 timed-stands file s (Reading.At t) = tt
 timed-stands file s Reading.NoTime = refl
@@ -83,4 +79,4 @@ timed-stands file s Reading.NoTime = refl
 pub refused-place : (file : List ℕ) (s : ℕ) {r : Refusal} → identificationAt file s ≡ Identified.Refused r → r .place .0 ≡ s
 unfolding identificationAt
 refused-place file s said =
-    subst (StandsAt s) said (tested-stands s (isIdentification file s) _ (timed-stands file s (timeAt file (placeOf s 13))))
+    subst (StandsAt s) said (chosen (StandsAt s) (isIdentification file s) (timed file s (timeAt file (placeOf s 13))) (refused s) (timed-stands file s (timeAt file (placeOf s 13))) refl)

@@ -1,6 +1,6 @@
 -- Cases by a test, for the proofs of every layer.
 use mathlib.Core.Path.{_≡_, refl}
-use mathlib.Core.Bool.{Bool, true, false, _&&_}
+use mathlib.Core.Bool.{Bool, true, false, _&&_, cond}
 use Prim.Native.Nat.{ℕ}
 use native.Mathlib.Omega.{arith}
 
@@ -8,6 +8,11 @@ use native.Mathlib.Omega.{arith}
 pub split {ℓ} : {A : Type ℓ} (test : Bool) → (test ≡ true → A) → (test ≡ false → A) → A
 split true holds fails = holds refl
 split false holds fails = fails refl
+
+-- What holds of two answers holds of the one that a test chooses.
+pub chosen : {A : Type 0} (P : A → Type 0) (test : Bool) (a b : A) → P a → P b → P (cond test a b)
+chosen P true a b p q = p
+chosen P false a b p q = q
 
 -- Each of two tests holds where both are taken together.
 pub both : (a b : Bool) → (a && b) ≡ true → (a ≡ true) × (b ≡ true)

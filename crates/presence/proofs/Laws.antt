@@ -14,7 +14,7 @@ use borrow.Author.Tests.{eq-eqb, ne-eqb, eqb-true}
 use Rattle.octets.specs.declared.FilePlace.{FilePlace}
 use Rattle.octets.specs.Places.{at}
 use Rattle.octets.specs.Numbers.{numberAt}
-use Rattle.octets.proofs.Cases.{split}
+use Rattle.octets.proofs.Cases.{split, chosen}
 use Rattle.octets.proofs.Laws.{number-fits, fits-eight}
 use Rattle.sections.specs.Sections.{Lies, octet, lengthAt}
 use Rattle.bits.specs.Bits.{bitAt, bitsAt, octetsOf}
@@ -187,24 +187,20 @@ abbrev StandsAt : ℕ → Marked → Type 0
 StandsAt s (Marked.As p) = Unit {0}
 StandsAt s (Marked.Refused r) = r .place .0 ≡ s
 
-either-stands : (s : ℕ) (test : Bool) (answer other : Marked) → StandsAt s answer → StandsAt s other → StandsAt s (cond test answer other)
-either-stands s true answer other stands others = stands
-either-stands s false answer other stands others = others
-
 module _ (file : List ℕ) (s points n : ℕ) where
   earlier-stands : (bitmap : Bitmap) → StandsAt s (earlierAt file s bitmap points n)
   earlier-stands Bitmap.Absent = refl
-  earlier-stands (Bitmap.At p) = either-stands s (isBitmap file (p .0) points n) _ (refused s) tt refl
+  earlier-stands (Bitmap.At p) = chosen (StandsAt s) (isBitmap file (p .0) points n) (Marked.As (Presence.Earlier p)) (refused s) tt refl
 
   presence-stands : (bitmap : Bitmap) → StandsAt s (presenceAt file s bitmap points n)
   unfolding presenceAt
   presence-stands bitmap =
-      let own = either-stands s (isBitmap file s points n) (Marked.As (Presence.Own (at s))) (refused s) tt refl in
-      let all = either-stands s (eqb points n) (Marked.As Presence.All) (refused s) tt refl in
-      let all-only = either-stands s (eqb (octet file s 6) 255) (allAt s points n) (refused s) all refl in
-      let without = either-stands s (eqb (octet file s 6) 254) (earlierAt file s bitmap points n) _ (earlier-stands bitmap) all-only in
-      let six-octets = either-stands s (eqb (lengthAt file s) 6) (withoutBitmap file s bitmap points n) (refused s) without refl in
-      either-stands s (ltb (lengthAt file s) 6) (refused s) _ refl (either-stands s (eqb (octet file s 6) 0) (ownAt file s points n) _ own six-octets)
+      let own = chosen (StandsAt s) (isBitmap file s points n) (Marked.As (Presence.Own (at s))) (refused s) tt refl in
+      let all = chosen (StandsAt s) (eqb points n) (Marked.As Presence.All) (refused s) tt refl in
+      let all-only = chosen (StandsAt s) (eqb (octet file s 6) 255) (allAt s points n) (refused s) all refl in
+      let without = chosen (StandsAt s) (eqb (octet file s 6) 254) (earlierAt file s bitmap points n) _ (earlier-stands bitmap) all-only in
+      let six-octets = chosen (StandsAt s) (eqb (lengthAt file s) 6) (withoutBitmap file s bitmap points n) (refused s) without refl in
+      chosen (StandsAt s) (ltb (lengthAt file s) 6) (refused s) _ refl (chosen (StandsAt s) (eqb (octet file s 6) 0) (ownAt file s points n) _ own six-octets)
 
 pub refused-place : (file : List ℕ) (s : ℕ) (bitmap : Bitmap) (points n : ℕ) {r : Refusal} → presenceAt file s bitmap points n ≡ Marked.Refused r → r .place .0 ≡ s
 refused-place file s bitmap points n said = subst (StandsAt s) said (presence-stands file s points n bitmap)

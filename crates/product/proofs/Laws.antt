@@ -2,13 +2,12 @@
 use Prim.{Unit as One}
 use Prim.Native.Nat.{ℕ}
 use mathlib.Core.Path.{_≡_, refl, ap, subst, sym, _∙_}
-use mathlib.Core.Bool.{Bool, true, false, cond}
 use mathlib.Core.List.{List}
 use native.Mathlib.Omega.{arith}
 use borrow.Author.Tests.{ltb-false}
 use lib.Dec.{eqb, ltb}
 use Rattle.octets.specs.Places.{placeOf}
-use Rattle.octets.proofs.Cases.{split}
+use Rattle.octets.proofs.Cases.{split, chosen}
 use Rattle.sections.specs.Sections.{octet, held}
 use Rattle.refusals.specs.declared.Refusal.{Refusal}
 use Rattle.calendar.specs.declared.Time.{Time}
@@ -163,10 +162,6 @@ abbrev StandsAt : ℕ → Defined → Type 0
 StandsAt s (Defined.As d) = One {0}
 StandsAt s (Defined.Refused r) = r .place .0 ≡ s
 
-tested-stands : (s : ℕ) (test : Bool) (answer : Defined) → StandsAt s answer → StandsAt s (cond test answer (refused s))
-tested-stands s true answer stands = stands
-tested-stands s false answer stands = refl
-
 module _ (file : List ℕ) (s : ℕ) where
   parts-stand : (valid : Time) (l : LevelReading) (p : ProductReading) → StandsAt s (definedBy file s valid l p)
   parts-stand valid (LevelReading.Is level) (ProductReading.Is product) = tt
@@ -179,4 +174,4 @@ module _ (file : List ℕ) (s : ℕ) where
 
   pub refused-place : (reference : Time) {r : Refusal} → productDefinitionAt file s reference ≡ Defined.Refused r → r .place .0 ≡ s
   unfolding productDefinitionAt
-  refused-place reference said = subst (StandsAt s) said (tested-stands s (isProduct file s) _ (moment-stands (validMoment file s reference)))
+  refused-place reference said = subst (StandsAt s) said (chosen (StandsAt s) (isProduct file s) (definedAt file s (validMoment file s reference)) (refused s) (moment-stands (validMoment file s reference)) refl)

@@ -1,13 +1,13 @@
 -- What the tests of section 4 tell, and what follows where one of them decides.
 use Prim.Native.Nat.{ℕ, _≤_}
-use mathlib.Core.Path.{_≡_, refl, ap, _∙_}
-use mathlib.Core.Bool.{Bool, true, false, cond}
+use mathlib.Core.Path.{_≡_, refl, sym, ap, _∙_}
+use mathlib.Core.Bool.{Bool, true, false, _||_, cond}
 use mathlib.Core.List.{List}
 use native.Mathlib.Omega.{arith}
 use borrow.Author.Tests.{eqb-true, eq-eqb, ne-eqb}
 use lib.Dec.{eqb}
 use Rattle.octets.specs.Places.{placeOf}
-use Rattle.octets.proofs.Cases.{split, both}
+use Rattle.octets.proofs.Cases.{split, both, chosen}
 use Rattle.sections.specs.Sections.{octet, held, lengthAt}
 use Rattle.calendar.specs.declared.Time.{Time}
 use Rattle.calendar.specs.declared.Reading.{Reading}
@@ -31,25 +31,31 @@ validMoment file s reference = later reference (held file s 19 22) (octet file s
 abbrev pub endMoment : List ℕ → ℕ → Time → Moment
 endMoment file s valid = later valid (held file s 50 53) (octet file s 49)
 
+or-false : (b : Bool) → (b || false) ≡ b
+or-false true = refl
+or-false false = refl
+
 module _ (file : List ℕ) (s : ℕ) where
   -- A section whose template is known has 34 octets or 58: 34 are there, and 58 where it is not template 0.
   longer : isTemplate file s ≡ true → eqb (lengthAt file s) 34 ≡ false → lengthAt file s ≡ 58
   longer e other = eqb-true _ _ (both (eqb (lengthAt file s) 58) (eqb (templateAt file s) 8) (rw other at e) .0)
 
+  -- In 34 octets the template decides.
+  pub template-in-34 : lengthAt file s ≡ 34 → isTemplate file s ≡ eqb (templateAt file s) 0
+  template-in-34 length = simp (eq-eqb _ 34 length, ne-eqb (lengthAt file s) 58 (omega arith)) (or-false (eqb (templateAt file s) 0))
+
   pub template-length : isTemplate file s ≡ true → 34 ≤ lengthAt file s
   template-length e = split (eqb (lengthAt file s) 34) (λ short. omega (arith, eqb-true)) (λ short. omega (arith, longer e short))
 
   pub interval-length : isTemplate file s ≡ true → (templateAt file s ≡ 0 → ⊥) → lengthAt file s ≡ 58
-  interval-length e other = split (eqb (lengthAt file s) 34) (λ short. absurd (other (eqb-true _ _ (rw short at e)))) (longer e)
+  interval-length e other = split (eqb (lengthAt file s) 34) (λ short. absurd (other (eqb-true _ _ (sym (template-in-34 (eqb-true _ _ short)) ∙ e)))) (longer e)
 
   -- A product has a template that is known.
   pub product-template : isProduct file s ≡ true → isTemplate file s ≡ true
   product-template e = both (isTemplate file s) _ (both _ _ (both _ _ (both _ _ e .0) .0) .0) .0
 
--- Two answers that are the same are so whatever the test says.
-either : {A : Type 0} {x y z : A} (test : Bool) → x ≡ z → y ≡ z → cond test x y ≡ z
-either true e f = e
-either false e f = f
+abbrev NoProduct : ProductReading → Type 0
+NoProduct p = p ≡ ProductReading.Bad
 
 -- An interval by its end and the time that its length leads to.
 module _ (file : List ℕ) (s : ℕ) (valid : Time) where
@@ -67,11 +73,9 @@ module _ (file : List ℕ) (s : ℕ) (valid : Time) where
   -- Where it is none for either kind, there is none.
   no-interval : ((kind : Kind) → intervalOf file s valid kind ≡ ProductReading.Bad) → intervalAt file s valid ≡ ProductReading.Bad
   no-interval none =
-      either (eqb (octet file s 42) 1)
-      (either (eqb (octet file s 47) 0) (none Kind.Mean)
-      (either (eqb (octet file s 47) 1) (none Kind.Sum)
-      refl))
-      refl
+      let sum = chosen NoProduct (eqb (octet file s 47) 1) (intervalOf file s valid Kind.Sum) ProductReading.Bad (none Kind.Sum) refl in
+      let mean = chosen NoProduct (eqb (octet file s 47) 0) (intervalOf file s valid Kind.Mean) _ (none Kind.Mean) sum in
+      chosen NoProduct (eqb (octet file s 42) 1) _ ProductReading.Bad mean refl
 
   pub no-end : timeAt file (placeOf s 35) ≡ Reading.NoTime → intervalAt file s valid ≡ ProductReading.Bad
   no-end read = no-interval (λ kind. ap (λ (r : Reading). ending kind r (endMoment file s valid)) read)

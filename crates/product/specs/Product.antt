@@ -1,6 +1,6 @@
 -- Document 01, "Section 4": what a field is about, and of which time.
 use Prim.Native.Nat.{ℕ}
-use mathlib.Core.Bool.{Bool, not, _&&_, cond}
+use mathlib.Core.Bool.{Bool, not, _&&_, _||_, cond}
 use mathlib.Core.List.{List}
 use lib.Dec.{eqb, leb}
 use Rattle.octets.specs.Places.{placeOf}
@@ -38,7 +38,7 @@ abbrev pub templateAt : List ℕ → ℕ → ℕ
 templateAt file s = held file s 8 9
 
 abbrev pub isTemplate : List ℕ → ℕ → Bool
-isTemplate file s = cond (eqb (lengthAt file s) 34) (eqb (templateAt file s) 0) (eqb (lengthAt file s) 58 && eqb (templateAt file s) 8)
+isTemplate file s = (eqb (lengthAt file s) 34 && eqb (templateAt file s) 0) || (eqb (lengthAt file s) 58 && eqb (templateAt file s) 8)
 
 -- No coordinates follow the template (octets 6-7), the forecast time of octets 19-22 is at most 2,147,483,647, there is a first surface
 -- (octet 23), and there is no second (octets 29-34 are all ones).

@@ -1,17 +1,14 @@
 -- What a caller may rely on where a section 5 is taken: the limits of R, E, D and the bits of a number, and those of the groups of template 5.3.
 use mathlib.Core.Path.{_≡_, refl, ap, sym, subst, _∙_}
-use mathlib.Core.Bool.{Bool, true, false, cond}
+use mathlib.Core.Bool.{true, false}
 use mathlib.Core.List.{List}
-use Prim.Native.Nat.{ℕ, _^_, _≤_, _<_}
+use Prim.Native.Nat.{ℕ, _≤_}
 use native.Mathlib.Omega.{arith}
 use borrow.Author.Tests.{leb-true}
 use lib.Dec.{T, leb}
 use lib.Ieee.{binary32, ofBits}
 use lib.Ieee.Scale.{finite}
-use Rattle.octets.specs.Places.{placeOf}
-use Rattle.octets.specs.Numbers.{octetAt}
-use Rattle.octets.proofs.Cases.{split, both}
-use Rattle.octets.proofs.Laws.{number-fits}
+use Rattle.octets.proofs.Cases.{split, both, chosen}
 use Rattle.sections.specs.Sections.{held}
 use Rattle.refusals.specs.declared.Refusal.{Refusal}
 use Rattle.representation.specs.declared.Grouping.{Grouping}
@@ -22,8 +19,8 @@ use Rattle.representation.specs.declared.TemplateReading.the-variants as
 use Rattle.representation.specs.declared.Representation.{Representation}
 use Rattle.representation.specs.declared.Represented.{Represented}
 use Rattle.representation.specs.declared.Represented.the-variants as Represented
-use Rattle.representation.specs.Representation.{refused, isScaled, groupingAt, isGrouping, templateAt, representedBy, representationAt}
-use Rattle.representation.proofs.Tests.{representationWith, limited, complex-is-grouped}
+use Rattle.representation.specs.Representation.{refused, representationWith, isScaled, groupingAt, isGrouping, templateAt, representedBy, representationAt}
+use Rattle.representation.proofs.Tests.{limited, complex-is-grouped}
 
 -- The numbers from which a value is rebuilt: R is finite, E and D are of at most 127 and 22, and a number has at most 31 bits.
 pub record Scaled (r : Representation) : Type 0 where
@@ -69,12 +66,6 @@ module _ (g : Grouping) (n : ℕ) where
   pub grouped-not : (Grouped g n → ⊥) → isGrouping g n ≡ false
   grouped-not out = split (isGrouping g n) (λ e. absurd (out (grouped e))) (λ e. e)
 
--- The increment of the lengths fits one octet, and their reference and the last length fit four.
-pub record LengthsFit (g : Grouping) : Type 0 where
-  pub increment256 : g .lengths .increment < 256
-  pub reference32 : g .lengths .reference < 2 ^ 32
-  pub last32 : g .lengths .last < 2 ^ 32
-
 -- What a representation that is said was read from.
 record ReadFrom (file : List ℕ) (s : ℕ) (r : Representation) (reading : TemplateReading) : Type 0 where
   template : reading ≡ TemplateReading.Is (r .template)
@@ -116,27 +107,13 @@ module _ (file : List ℕ) (s : ℕ) where
       subst (λ (n : ℕ). Grouped g n) count
       (subst (λ (g : Grouping). Grouped g (held file s 6 9)) (groups .0) (grouped (groupingAt file s) (held file s 6 9) (groups .1)))
 
-  -- Where each octet of the file is below 256, the numbers of their lengths fit the octets that they stand in.
-  pub represented-lengths : {r : Representation} {g : Grouping} → ((i : ℕ) → octetAt file i < 256) → representationAt file s ≡ Represented.By r → r .template ≡ Template.Complex g → LengthsFit g
-  represented-lengths {r} {g} octets said complex =
-      subst LengthsFit (groups-read said complex .0)
-      (record {
-        increment256 = octets (placeOf s 42);
-        reference32 = number-fits file (placeOf s 38) 4 octets;
-        last32 = number-fits file (placeOf s 43) 4 octets;
-      })
-
 -- Where a section 5 is refused, the refusal stands at it.
 abbrev StandsAt : ℕ → Represented → Type 0
 StandsAt s (Represented.By r) = Unit {0}
 StandsAt s (Represented.Refused r) = r .place .0 ≡ s
 
-tested-stands : (s : ℕ) (test : Bool) (answer : Represented) → StandsAt s answer → StandsAt s (cond test answer (refused s))
-tested-stands s true answer stands = stands
-tested-stands s false answer stands = refl
-
 reading-stands : (file : List ℕ) (s : ℕ) (reading : TemplateReading) → StandsAt s (representedBy file s reading)
-reading-stands file s (TemplateReading.Is t) = tested-stands s (isScaled file s) (Represented.By (representationWith file s t)) tt
+reading-stands file s (TemplateReading.Is t) = chosen (StandsAt s) (isScaled file s) (Represented.By (representationWith file s t)) (refused s) tt refl
 reading-stands file s TemplateReading.Bad = refl
 
 pub refused-place : (file : List ℕ) (s : ℕ) {r : Refusal} → representationAt file s ≡ Represented.Refused r → r .place .0 ≡ s

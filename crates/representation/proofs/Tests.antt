@@ -1,6 +1,6 @@
 -- What each test of section 5 tells, and that the template and what is said of the section follow from the tests.
-use mathlib.Core.Path.{_≡_, ap, _∙_}
-use mathlib.Core.Bool.{true, false, cond}
+use mathlib.Core.Path.{_≡_, sym, ap, _∙_}
+use mathlib.Core.Bool.{true, false, _&&_, cond}
 use mathlib.Core.List.{List}
 use Prim.Native.Nat.{ℕ, _≤_}
 use native.Mathlib.Omega.{arith}
@@ -14,21 +14,18 @@ use Rattle.representation.specs.declared.Grouping.{Grouping}
 use Rattle.representation.specs.declared.Template.{Template}
 use Rattle.representation.specs.declared.Template.the-variants as Template
 use Rattle.representation.specs.declared.TemplateReading.the-variants as TemplateReading
-use Rattle.representation.specs.declared.Representation.{Representation}
 use Rattle.representation.specs.declared.Represented.the-variants as Represented
-use Rattle.representation.specs.Representation.{refused, isScaled, groupingAt, isDifferenced, isGrouping, complexAt, templateAt, representedBy, representationAt}
+use Rattle.representation.specs.Representation.{refused, representationWith, isScaled, groupingAt, isDifferenced, isGrouping, complexAt, templateAt, representedBy, representationAt}
 
--- What the octets of a section 5 with a given template say.
-abbrev pub representationWith : List ℕ → ℕ → Template → Representation
-representationWith file s template =
-    record {
-      n = held file s 6 9;
-      r = held file s 12 15;
-      e = heldSigned file s 16 17;
-      d = heldSigned file s 18 19;
-      bits = octet file s 20;
-      template = template;
-    }
+-- A template that is read is one alone, and what is bad is none.
+never-read : {A : Type 0} {t : Template} → TemplateReading.Bad ≡ TemplateReading.Is t → A
+never-read {A} {t} e = let impossible : _≡_ {A = ℕ} 0 1 = cc in absurd (omega arith)
+
+never-simple : {A : Type 0} {g : Grouping} → TemplateReading.Is Template.Simple ≡ TemplateReading.Is (Template.Complex g) → A
+never-simple {A} {g} e = let impossible : _≡_ {A = ℕ} 0 1 = cc in absurd (omega arith)
+
+same-groups : {g h : Grouping} → TemplateReading.Is (Template.Complex g) ≡ TemplateReading.Is (Template.Complex h) → g ≡ h
+same-groups e = cc
 
 -- Where the other bounds hold, the number of groups decides.
 pub groups-decide : (g : Grouping) (n : ℕ) → (g .widths .reference ≤ 31) × (g .widths .bits ≤ 31) × (g .lengths .bits ≤ 31) × (1 ≤ g .extra) × (g .extra ≤ 4) × (2 ≤ n) × (1 ≤ g .groups) → isGrouping g n ≡ leb (g .groups) n
@@ -91,7 +88,7 @@ module _ (file : List ℕ) (s : ℕ) where
 
   -- Which template is read follows from the length.
   pub template-in-21 : lengthAt file s ≡ 21 → templateAt file s ≡ cond (eqb (held file s 10 11) 0) (TemplateReading.Is Template.Simple) TemplateReading.Bad
-  template-in-21 length = rw (eq-eqb _ 21 length)
+  template-in-21 length = simp (eq-eqb _ 21 length, ne-eqb (lengthAt file s) 49 (omega arith))
 
   pub template-in-49 : lengthAt file s ≡ 49 → templateAt file s ≡ cond (eqb (held file s 10 11) 3) (complexAt file s) TemplateReading.Bad
   template-in-49 length = rw (ne-eqb (lengthAt file s) 21 (omega arith), eq-eqb _ 49 length)
@@ -108,24 +105,20 @@ module _ (file : List ℕ) (s : ℕ) where
       (λ not49. let impossible : _≡_ {A = ℕ} 0 1 = cc (no-template (eqb-false _ _ not21) (eqb-false _ _ not49)) in absurd (omega arith)))
 
   -- The groups of template 5.3 are those that the octets tell, and have passed their test.
-  pub complex-is-grouped : {g : Grouping} → templateAt file s ≡ TemplateReading.Is (Template.Complex g) → (groupingAt file s ≡ g) × (isGrouping (groupingAt file s) (held file s 6 9) ≡ true)
-  complex-is-grouped {g} read =
-      split (eqb (lengthAt file s) 21)
-      (λ length.
-      split (eqb (held file s 10 11) 0) (λ e. let impossible : _≡_ {A = ℕ} 0 1 = cc in absurd (omega arith))
-      (λ e. let impossible : _≡_ {A = ℕ} 0 1 = cc in absurd (omega arith)))
-      (λ not21.
-      split (eqb (lengthAt file s) 49)
-      (λ length.
-      split (eqb (held file s 10 11) 3)
-      (λ e.
+  of-complex : {g : Grouping} → complexAt file s ≡ TemplateReading.Is (Template.Complex g) → (groupingAt file s ≡ g) × (isGrouping (groupingAt file s) (held file s 6 9) ≡ true)
+  of-complex read =
       split (isDifferenced file s)
       (λ d.
-      split (isGrouping (groupingAt file s) (held file s 6 9)) (λ grouped. ((cc (differenced d grouped)), grouped))
-      (λ fails. let impossible : _≡_ {A = ℕ} 0 1 = cc (not-grouped fails) in absurd (omega arith)))
-      (λ d. let impossible : _≡_ {A = ℕ} 0 1 = cc (not-differenced d) in absurd (omega arith)))
-      (λ e. let impossible : _≡_ {A = ℕ} 0 1 = cc in absurd (omega arith)))
-      (λ not49. let impossible : _≡_ {A = ℕ} 0 1 = cc (no-template (eqb-false _ _ not21) (eqb-false _ _ not49)) in absurd (omega arith)))
+      split (isGrouping (groupingAt file s) (held file s 6 9)) (λ grouped. (same-groups (sym (differenced d grouped) ∙ read), grouped))
+      (λ fails. never-read (sym (not-grouped fails) ∙ read)))
+      (λ d. never-read (sym (not-differenced d) ∙ read))
+
+  pub complex-is-grouped : {g : Grouping} → templateAt file s ≡ TemplateReading.Is (Template.Complex g) → (groupingAt file s ≡ g) × (isGrouping (groupingAt file s) (held file s 6 9) ≡ true)
+  complex-is-grouped read =
+      split (eqb (lengthAt file s) 21 && eqb (held file s 10 11) 0) (λ simple. never-simple (rw simple at read))
+      (λ other.
+      split (eqb (lengthAt file s) 49 && eqb (held file s 10 11) 3) (λ complex. of-complex (rw (other, complex) at read))
+      (λ none. never-read (rw (other, none) at read)))
 
   -- What is said of a section 5 follows from its template and from the test of its limits.
   pub no-template-refused : templateAt file s ≡ TemplateReading.Bad → representationAt file s ≡ refused s

@@ -13,6 +13,7 @@ use Rattle.representation.specs.declared.Template.{Template}
 use Rattle.representation.specs.declared.Template.the-variants as Template
 use Rattle.representation.specs.declared.TemplateReading.{TemplateReading}
 use Rattle.representation.specs.declared.TemplateReading.the-variants as TemplateReading
+use Rattle.representation.specs.declared.Representation.{Representation}
 use Rattle.representation.specs.declared.Represented.{Represented}
 use Rattle.representation.specs.declared.Represented.the-variants as Represented
 
@@ -64,26 +65,24 @@ complexAt file s = cond (isDifferenced file s && isGrouping (groupingAt file s) 
 -- Octets 10-11 hold the template: 0, simple packing, in a section of 21 octets, or 3, complex packing with spatial differencing, in one of 49.
 abbrev pub templateAt : List ℕ → ℕ → TemplateReading
 templateAt file s =
-    cond (eqb (lengthAt file s) 21)
-    (cond (eqb (held file s 10 11) 0) (TemplateReading.Is Template.Simple) TemplateReading.Bad)
-    (cond (eqb (lengthAt file s) 49)
-    (cond (eqb (held file s 10 11) 3) (complexAt file s) TemplateReading.Bad)
+    cond (eqb (lengthAt file s) 21 && eqb (held file s 10 11) 0) (TemplateReading.Is Template.Simple)
+    (cond (eqb (lengthAt file s) 49 && eqb (held file s 10 11) 3) (complexAt file s)
     TemplateReading.Bad)
 
 -- N stands in octets 6-9. R is told by its 32 bits.
-abbrev pub representedBy : List ℕ → ℕ → TemplateReading → Represented
-representedBy file s (TemplateReading.Is template) =
-    cond (isScaled file s)
-    (Represented.By
-    (record {
+abbrev pub representationWith : List ℕ → ℕ → Template → Representation
+representationWith file s template =
+    record {
       n = held file s 6 9;
       r = held file s 12 15;
       e = heldSigned file s 16 17;
       d = heldSigned file s 18 19;
       bits = octet file s 20;
       template = template;
-    }))
-    (refused s)
+    }
+
+abbrev pub representedBy : List ℕ → ℕ → TemplateReading → Represented
+representedBy file s (TemplateReading.Is template) = cond (isScaled file s) (Represented.By (representationWith file s template)) (refused s)
 representedBy file s TemplateReading.Bad = refused s
 
 unfoldable pub representationAt : List ℕ → ℕ → Represented

@@ -102,10 +102,7 @@ room-left (suc i) rest some small = omega arith
 pub tenth-lt : (most n : ℕ) → n < 10 ^ suc most → n / 10 < 10 ^ most
 tenth-lt most n small = div-lt-iff-lt-mul {k = 10} {x = n} {y = 10 ^ most} (omega arith) .1 (rw pow-suc at small)
 
--- A number has at least one digit, and at most as many as are asked for.
-spelt-some : (most n : ℕ) → 1 ≤ length (spelt (suc most) n)
-spelt-some most n = rw (spelt-last most n, length-append (leading most (n / 10)) (digit n ∷ [])) (omega arith)
-
+-- A number has at most as many digits as are asked for.
 spelt-short : (most n : ℕ) → length (spelt most n) ≤ most
 unfolding spelt
 spelt-short zero n = omega arith
@@ -114,9 +111,6 @@ spelt-short (suc most) n =
     (ltb n 10)
     (λ small. rw small (omega arith))
     (λ large. rw (large, length-append (spelt most (n / 10)) (digit n ∷ [])) (omega (arith, spelt-short most (n / 10))))
-
-pub decimal-some : (n : ℕ) → 1 ≤ length (decimal n)
-decimal-some n = spelt-some 19 n
 
 pub decimal-short : (n : ℕ) → length (decimal n) ≤ 20
 decimal-short n = spelt-short 20 n

@@ -1,10 +1,12 @@
 -- `product::is_template` meets its contract: the length is tested first, and then the template that has it.
-use mathlib.Core.Path.{_≡_, sym, _∙_}
+use Prim.Native.Nat.{ℕ}
+use mathlib.Core.Path.{_≡_, sym, ap, _∙_}
 use mathlib.Core.Bool.{false}
 use borrow.Author.Tests.{eq-eqb, ne-eqb}
 use borrow.Author.Needs.{needs}
 use lib.Dec.{eqb}
 use Rattle.sections.specs.Sections.{lengthAt}
+use Rattle.product.proofs.Tests.{template-in-34}
 use Rattle.product.proofs.is_template.Statement.{statement}
 use Rattle.product.proofs.is_template.Tie as tie
 
@@ -15,7 +17,10 @@ held-requires : tie.Need-held-requires
 held-requires c κs = search needs
 
 returns : tie.Need-returns
-returns c = simp (c .held .ensures .0, eq-eqb _ 34 (sym (c .before .before .length-of .ensures .0) ∙ c .before .if1 .taken))
+returns c =
+    let args = c .before .before .before .before .args in
+    ap (λ (n : ℕ). eqb n 0) (c .held .ensures .0)
+    ∙ sym (template-in-34 (args .file .now) (args .at .0) (sym (c .before .before .length-of .ensures .0) ∙ c .before .if1 .taken))
 
 -- Behind the first test the length is not 34.
 other-length : (c : tie.Else1) → let a = c .before .before .before .args in eqb (lengthAt (a .file .now) (a .at .0)) 34 ≡ false
