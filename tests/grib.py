@@ -91,6 +91,16 @@ def message(*sections, discipline=0):
     return b'GRIB' + b'\xff\xff' + bytes([discipline, 2]) + number(16 + len(body) + 4, 8) + body + b'7777'
 
 
+def spliced(file, place, octets):
+    """A file with other octets from a place on."""
+    return file[:place] + octets + file[place + len(octets):]
+
+
+def octet_changes(file):
+    """Every file that differs in one octet."""
+    return [spliced(file, i, bytes([octet])) for i in range(len(file)) for octet in range(256) if octet != file[i]]
+
+
 def two_fields():
     """Document 01's 276-octet file: 2 x 2 points, a bitmap and then 254, 12-bit values, a temperature and a sum of rain."""
     zero = bytes(4)
