@@ -13,10 +13,9 @@ use Rattle.octets.specs.declared.FilePlace.{FilePlace}
 use Rattle.octets.proofs.Cases.{split}
 use Rattle.refusals.specs.declared.Refusal.{Refusal}
 use Rattle.walk.specs.declared.Located.{Located}
-use Rattle.walk.specs.declared.Progress.{Progress}
 use Rattle.walk.specs.declared.Section.the-variants as Section
 use Rattle.walk.specs.declared.Walked.the-variants as Walked
-use Rattle.walk.specs.Walk.{Walking, sectionAt, located, walkFrom, sections, counted, nowhere, passed}
+use Rattle.walk.specs.Walk.{Walking, sectionAt, located, walkFrom, sections, counted, nowhere, Progress, passed}
 use Rattle.walk.proofs.Laws.{next-within, walk-on, walk-end, walk-bad}
 
 -- The walk that the code's progress w stands for, with these fields finished.

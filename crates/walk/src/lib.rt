@@ -2,7 +2,7 @@
 ghost use mathlib.Core.Path.{_≡_};
 ghost use Prim.Native.Nat.{_+_, _<_, _≤_};
 ghost use lib.ListN.{length};
-ghost use Rattle.walk.specs.Walk.{follows, sectionAt, bitmapBehind, bitmapAfter, startsAfter, passed, nowhere, sections, counted};
+ghost use Rattle.walk.specs.Walk.{follows, sectionAt, bitmapBehind, startsAfter, nowhere, sections, counted};
 use octets::FilePlace;
 use octets::OctetNumber;
 use refusals::Refusal;
@@ -37,17 +37,6 @@ pub enum Section {
     // The end of the sections, after a finished field.
     End,
     Bad(Refusal),
-}
-
-// A walk under way: the place that it has come to, the number of the section before that, how many fields are finished, the starts and the
-// bitmap in force, and where the field lies that is looked for, once it is finished.
-pub struct Progress {
-    pub at: FilePlace,
-    pub after: u8,
-    pub fields: usize,
-    pub starts: Starts,
-    pub bitmap: Bitmap,
-    pub hit: Located,
 }
 
 // What a walk over all sections of a message finds: how many fields, and where the one lies that is looked for.
@@ -129,18 +118,6 @@ fn bitmap_behind(file: &[u8], bitmap: Bitmap, at: FilePlace, next: FilePlace) ->
     }
 }
 
-// The bitmap in force behind a section numbered `number`, from `at` up to `next`.
-fn bitmap_after(file: &[u8], bitmap: Bitmap, number: u8, at: FilePlace, next: FilePlace) -> Bitmap
-    requires { ⌜ (at .0 + 5 ≤ next .0) × (next .0 ≤ length (now file)) ⌝ }
-    ensures { λ r. ⌜ r ≡ bitmapAfter (now (file .entry)) bitmap number (at .0) (next .0) ⌝ }
-{
-    match number {
-        3 => Bitmap::Absent,
-        6 => bitmap_behind(file, bitmap, at, next),
-        _ => bitmap,
-    }
-}
-
 // The starts in force behind a section numbered `number` that starts at `at`.
 fn starts_after(starts: Starts, number: u8, at: FilePlace) -> Starts
     ensures { λ r. ⌜ r ≡ startsAfter starts number (at .0) ⌝ }
@@ -175,34 +152,6 @@ fn starts_after(starts: Starts, number: u8, at: FilePlace) -> Starts
     }
 }
 
-// The walk past one more section, in search of field `k`.
-fn passed(file: &[u8], progress: Progress, k: usize, number: u8, next: FilePlace) -> Progress
-    requires { ⌜ (progress .at .0 + 5 ≤ next .0) × (next .0 ≤ length (now file)) × (progress .fields ≤ progress .at .0) ⌝ }
-    ensures { λ r. ⌜ r ≡ passed (now (file .entry)) progress k number (next .0) ⌝ }
-{
-    let at = progress.at;
-    let before = progress.starts;
-    let bitmap_before = progress.bitmap;
-    let mut hit = progress.hit;
-    let mut fields = progress.fields;
-    let starts = starts_after(before, number, at);
-    let bitmap = bitmap_after(file, bitmap_before, number, at, next);
-    if number == 7 {
-        if fields == k {
-            hit = Located { starts, bitmap };
-        }
-        fields += 1;
-    }
-    Progress {
-        at: next,
-        after: number,
-        fields,
-        starts,
-        bitmap,
-        hit,
-    }
-}
-
 pub fn nowhere() -> Located
     ensures { λ r. ⌜ r ≡ nowhere ⌝ }
 {
@@ -224,30 +173,34 @@ pub fn fields_in(file: &[u8], start: FilePlace, end: FilePlace, k: usize) -> Wal
     requires { ⌜ (start .0 ≤ end .0) × (end .0 ≤ length (now file)) ⌝ }
     ensures { λ r. ⌜ r ≡ counted k (sections (now (file .entry)) (start .0) (end .0)) ⌝ }
 {
-    let hit = nowhere();
-    let starts = hit.starts;
-    let bitmap = hit.bitmap;
-    let mut progress = Progress {
-        at: start,
-        after: 0,
-        fields: 0,
-        starts,
-        bitmap,
-        hit,
-    };
+    // Plain locals, and no struct of them: a struct with enums would be copied whole, padding and all, with each section.
+    let mut hit = nowhere();
+    let mut starts = hit.starts;
+    let mut bitmap = Bitmap::Absent;
+    let mut at = start;
+    let mut after: u8 = 0;
+    let mut fields: usize = 0;
     loop {
-        let at = progress.at;
-        let after = progress.after;
         match section_at(file, at, end, after) {
             Section::Next { number, next } => {
-                progress = passed(file, progress, k, number, next);
+                let here = at;
+                at = next;
+                after = number;
+                starts = starts_after(starts, number, here);
+                match number {
+                    3 => bitmap = Bitmap::Absent,
+                    6 => bitmap = bitmap_behind(file, bitmap, here, next),
+                    7 => {
+                        if fields == k {
+                            hit = Located { starts, bitmap };
+                        }
+                        fields += 1;
+                    }
+                    _ => {}
+                }
             }
             Section::End => {
-                let hit = progress.hit;
-                return Walked::Fields {
-                    count: progress.fields,
-                    hit,
-                };
+                return Walked::Fields { count: fields, hit };
             }
             Section::Bad(refusal) => {
                 return Walked::Bad(refusal);
