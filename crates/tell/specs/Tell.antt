@@ -4,7 +4,7 @@ use Prim.Native.Nat.{ℕ}
 use mathlib.Core.List.{List}
 use Rattle.refusals.specs.declared.Why.the-variants as Why
 use Rattle.refusals.specs.Refusals.{codeOf, refusal}
-use Rattle.text.specs.Text.{laid}
+use Rattle.rows.specs.Rows.{laid}
 use Rattle.fields.specs.declared.Described.{Described}
 use Rattle.fields.specs.declared.Described.the-variants as Described
 use Rattle.fields.specs.declared.Placed.{Placed}

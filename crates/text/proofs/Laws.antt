@@ -11,7 +11,8 @@ use lib.Seq.{length-take-le, take-at, drop-append-add, drop-drop, drop-cons, dro
 use borrow.Author.Tests.{ltb-true, ltb-false, eq-eqb, ne-eqb, eqb-true, eqb-false}
 use Rattle.octets.proofs.Cases.{split}
 use Rattle.calendar.specs.Calendar.{digit}
-use Rattle.text.specs.Text.{laid, Puts, spelt, decimal}
+use Rattle.rows.specs.Rows.{laid}
+use Rattle.text.specs.Text.{Puts, spelt, decimal}
 
 -- Where nothing is put, the run and the place stay.
 pub puts-none : (a : List ℕ) (at : ℕ) → Puts a at [] a at

@@ -6,17 +6,14 @@ use mathlib.Core.Path.{_≡_}
 use mathlib.Core.Bool.{cond}
 use mathlib.Core.List.{List, [], _∷_, _++_}
 use lib.Dec.{ltb}
-use lib.ListN.{length, take, drop}
+use lib.ListN.{length}
+use Rattle.rows.specs.Rows.{laid}
 use Rattle.calendar.specs.Calendar.{digit}
 
 -- The octets of a text: the codes of its characters.
 abbrev pub ascii : String → List ℕ
 ascii noText = []
 ascii (c andThen s) = code c ∷ ascii s
-
--- A run in which octets are put from place `at` on.
-abbrev pub laid : List ℕ → ℕ → List ℕ → List ℕ
-laid run at octets = take at run ++ octets ++ drop (at + length octets) run
 
 -- What a function that puts octets does to a run, and that it answers the place behind them.
 abbrev pub Puts : List ℕ → ℕ → List ℕ → List ℕ → ℕ → Type 0

@@ -1,0 +1,2 @@
+-- The laws of rows and of stretches.
+pub mod Laws
