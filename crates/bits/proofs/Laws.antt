@@ -1,13 +1,14 @@
 -- The laws of the number of b bits, each once, over b: its bound, its parts, and that it is cut out of a window of octets.
 use mathlib.Core.Path.{_≡_, refl, sym, ap, ap₂, _∙_}
 use Prim.Native.Nat.{ℕ, zero, suc, _+_, _-_, _*_, _/_, _%_, _^_, _≤_, _<_}
-use native.Mathlib.Nat.{add-zero, add-suc, add-assoc, mul-assoc, add-mul, pow-suc, suc-mul, lt-of-lt-of-le, lt-of-le-of-lt, le-of-lt, mul-le-mul-left, mul-lt-mul-of-pos-right}
+use native.Mathlib.Nat.{add-zero, add-suc, add-assoc, mul-assoc, add-mul, one-mul, two-mul, pow-suc, suc-mul, div-add-mod', mod-eq-of-lt}
+use native.Mathlib.Nat.{lt-of-lt-of-le, lt-of-le-of-lt, le-of-lt, mul-le-mul-left, mul-lt-mul-of-pos-right}
 use native.Mathlib.Numerals.{add-one}
 use native.Mathlib.Omega.{arith}
 use mathlib.Core.List.{List}
 use lib.Arith.{digits-lt, digits-div, digits-mod}
 use lib.ListN.{getD}
-use lib.Pow.{pow-pos, pow-mono, high, low, field, shr-shr, shl-shr}
+use lib.Pow.{pow-pos, pow-mono, pow-lt, high, low, shr-shr}
 use Rattle.octets.specs.Numbers.{numberAt}
 use Rattle.bits.specs.Bits.{bitAt, bitsAt, octetsOf}
 
@@ -76,18 +77,34 @@ bits-in-window run at n r b h =
     ∙ ap (λ (w : ℕ). w % 2 ^ b) (bits-add run at r b)
     ∙ low (bitsAt run at r) b (bits-lt run (at + r) b)
 
--- A shift up by r, one down by 1 and one down by 63 - b cut those bits out of a window of 64.
-pub cut-by-shifts : (window r b : ℕ) → r + b ≤ 63 → window * 2 ^ r % 2 ^ 64 / 2 / 2 ^ (63 - b) ≡ window / 2 ^ (64 - r - b) % 2 ^ b
+-- The same, where the window is the eight octets from the one on that holds the first of the bits.
+pub bits-in-octets : (run : List ℕ) (at b : ℕ) → ((i : ℕ) → getD run i 0 < 256) → at % 8 + b ≤ 64
+    → numberAt run (at / 8) 8 / 2 ^ (64 - at % 8 - b) % 2 ^ b ≡ bitsAt run at b
+bits-in-octets run at b octets h =
+    ap (λ (w : ℕ). w / 2 ^ (64 - at % 8 - b) % 2 ^ b) (sym (bits-of-octets run (at / 8) 8 octets))
+    ∙ bits-in-window run (at / 8 * 8) 64 (at % 8) b h
+    ∙ ap (λ (i : ℕ). bitsAt run i b) (div-add-mod' at 8)
+
+-- Of two numbers of b bits in one of twice as many, the first is the high part and the second the low part.
+pub first-of-two : (run : List ℕ) (at b : ℕ) → bitsAt run at (2 * b) / 2 ^ b ≡ bitsAt run at b
+first-of-two run at b = rw (two-mul b, bits-add run at b b) (high (bitsAt run at b) b (bits-lt run (at + b) b))
+
+pub second-of-two : (run : List ℕ) (at b : ℕ) → bitsAt run at (2 * b) % 2 ^ b ≡ bitsAt run (at + b) b
+second-of-two run at b = rw (two-mul b, bits-add run at b b) (low (bitsAt run at b) b (bits-lt run (at + b) b))
+
+-- A 1 that is shifted up by less than 64 is a power of two.
+pub one-shifted : {b : ℕ} → b < 64 → 1 * 2 ^ b % 2 ^ 64 ≡ 2 ^ b
+one-shifted {b} h = ap (λ (n : ℕ). n % 2 ^ 64) (one-mul (2 ^ b)) ∙ mod-eq-of-lt (pow-lt h)
+
+-- A number that is not 0 is its own remainder by a greater one, which then is not 0 either.
+pub remains : {n m : ℕ} → 0 < n → n < m → 0 < n % m
+remains h k = rw (mod-eq-of-lt k) h
+
+-- A half, a shift down by 63 - r - b and a remainder cut those bits out of a window of 64.
+pub cut-by-shifts : (window r b : ℕ) → r + b ≤ 63 → window / 2 / 2 ^ (63 - r - b) % (1 * 2 ^ b % 2 ^ 64) ≡ window / 2 ^ (64 - r - b) % 2 ^ b
 cut-by-shifts window r b h =
-    let down : ℕ = 1 + (63 - b) in
-    let rest : ℕ = 64 - r - b in
-    let all : 64 ≡ b + down = omega arith in
-    let both : down ≡ r + rest = omega arith in
-    shr-shr (window * 2 ^ r % 2 ^ 64) 1 (63 - b)
-    ∙ ap (λ (m : ℕ). window * 2 ^ r % 2 ^ m / 2 ^ down) all
-    ∙ field (window * 2 ^ r) b down
-    ∙ ap (λ (m : ℕ). window * 2 ^ r / 2 ^ m % 2 ^ b) both
-    ∙ ap (λ (m : ℕ). m % 2 ^ b) (sym (shr-shr (window * 2 ^ r) r rest) ∙ ap (λ (m : ℕ). m / 2 ^ rest) (shl-shr window r))
+    let down : 1 + (63 - r - b) ≡ 64 - r - b = omega arith in
+    ap₂ (λ (m n : ℕ). m % n) (shr-shr window 1 (63 - r - b) ∙ ap (λ (k : ℕ). window / 2 ^ k) down) (one-shifted (omega arith))
 
 -- A product of two numbers of 32 bits fits 64.
 pub product-fits : {a b : ℕ} → a < 2 ^ 32 → b < 2 ^ 32 → a * b < 2 ^ 64

@@ -6,6 +6,12 @@ ghost use Rattle.octets.specs.Numbers.{octetAt, numberAt};
 ghost use Rattle.bits.specs.Bits.{bitAt, bitsAt, octetsOf};
 use octets::BitPlace;
 
+// Two numbers that stand one behind the other.
+pub struct Pair {
+    pub first: u32,
+    pub second: u32,
+}
+
 // A number with one octet more at its end.
 fn push(number: u64, octet: u8) -> u64
     requires { ⌜ number < 2 ^ 56 ⌝ }
@@ -30,11 +36,11 @@ pub fn eight(run: &[u8], from: usize) -> u64
 }
 
 // The b bits of a window of 64 that stand `past` bits below its top.
-fn cut(window: u64, past: u32, b: u32) -> u32
-    requires { ⌜ (past < 8) × (b ≤ 32) ⌝ }
+fn cut(window: u64, past: u32, b: u32) -> u64
+    requires { ⌜ (past < 8) × (b ≤ 56) ⌝ }
     ensures { λ r. ⌜ r ≡ window / 2 ^ (64 - past - b) % 2 ^ b ⌝ }
 {
-    ((window << past) / 2 >> (63 - b)) as u32
+    (window / 2 >> (63 - past - b)) % (1u64 << b)
 }
 
 // An octet of a run, and 0 past its end.
@@ -86,9 +92,24 @@ pub fn read_bits(run: &[u8], at: BitPlace, b: u32) -> u32
     let from = holding.0 - 1;
     let past = (at.0 % 8) as u32;
     if from + 8 <= run.len() {
-        cut(eight(run, from), past, b)
+        cut(eight(run, from), past, b) as u32
     } else {
         bit_by_bit(run, at, b)
+    }
+}
+
+// Two numbers of b bits, one behind the other, where eight octets are left from the first on: both stand in one window, and nothing is tested.
+pub fn read_pair(run: &[u8], at: BitPlace, b: u32) -> Pair
+    requires { ⌜ (at .0 / 8 + 8 ≤ length (now run)) × (b ≤ 28) ⌝ }
+    ensures { λ r. ⌜ (r .first ≡ bitsAt (now (run .entry)) (at .0) b) × (r .second ≡ bitsAt (now (run .entry)) (at .0 + b) b) ⌝ }
+{
+    let holding = octets::octet_holding(at);
+    let from = holding.0 - 1;
+    let past = (at.0 % 8) as u32;
+    let both = cut(eight(run, from), past, 2 * b);
+    Pair {
+        first: (both >> b) as u32,
+        second: (both % (1u64 << b)) as u32,
     }
 }
 
