@@ -124,17 +124,17 @@ module _ (file : List ℕ) (s points n : ℕ) {p : declared.Presence} where
       subst (Told file s bitmap points n) same (eqb-true points n (all .0))
 
 -- The points present, counted one by one, are the bits of the bitmap that are set, or all points.
-present-all : (file : List ℕ) (points n : ℕ) → presentBefore file Presence.All points n ≡ n
+pub present-all : (file : List ℕ) (points n : ℕ) → presentBefore file Presence.All points n ≡ n
 unfolding presentBefore
 present-all file points zero = refl
 present-all file points (suc n) = rw (present-all file points n) (omega arith)
 
-present-own : (file : List ℕ) (q : FilePlace) (points n : ℕ) → presentBefore file (Presence.Own q) points n ≡ onesBefore (bitmapIn file (q .0) points) n
+pub present-own : (file : List ℕ) (q : FilePlace) (points n : ℕ) → presentBefore file (Presence.Own q) points n ≡ onesBefore (bitmapIn file (q .0) points) n
 unfolding presentBefore onesBefore
 present-own file q points zero = refl
 present-own file q points (suc n) = rw (present-own file q points n)
 
-present-earlier : (file : List ℕ) (q : FilePlace) (points n : ℕ) → presentBefore file (Presence.Earlier q) points n ≡ onesBefore (bitmapIn file (q .0) points) n
+pub present-earlier : (file : List ℕ) (q : FilePlace) (points n : ℕ) → presentBefore file (Presence.Earlier q) points n ≡ onesBefore (bitmapIn file (q .0) points) n
 unfolding presentBefore onesBefore
 present-earlier file q points zero = refl
 present-earlier file q points (suc n) = rw (present-earlier file q points n)

@@ -1,0 +1,3 @@
+-- What is written for the points of a field.
+pub mod Points
+pub mod Written
