@@ -12,9 +12,12 @@ use Rattle.octets.specs.Numbers.{whole, wholeOf}
 use Rattle.octets.proofs.Cases.{split, both}
 use Rattle.octets.proofs.Whole.{minus-less, minus-more}
 use Rattle.doubles.specs.Doubles.{isPacked}
+use Rattle.group.specs.declared.Worked as declared
+use Rattle.group.specs.declared.Worked.the-variants as Worked
+use Rattle.group.specs.Group.{mostX, next}
 use Rattle.packing.specs.declared.Differencing.{Differencing}
 use Rattle.integers.specs.Integers.{integer}
-use Rattle.integers.specs.Worked.{mostX, Worked, kept, out, raisedBy, loweredBy, next, worked}
+use Rattle.integers.specs.Worked.{raisedBy, loweredBy, worked}
 
 -- Zmin is what it adds less what it takes away.
 zmin-parts : (z : Signed) → whole z ≡ pos (raisedBy z) -ℤ pos (loweredBy z)
@@ -48,13 +51,13 @@ above : (up down : ℕ) → down ≤ up → mostX < up - down → isPacked (pos 
 above up down h k = ap isPacked (minus-less up down h) ∙ lt-leb (up - down) mostX k
 
 -- What is kept is known by its two integers, and nothing is both kept and out.
-same-kept : {x y b c : ℕ} → kept x b ≡ kept y c → (x ≡ y) × (b ≡ c)
+same-kept : {x y b c : ℕ} → Worked.Kept x b ≡ Worked.Kept y c → (x ≡ y) × (b ≡ c)
 same-kept e = (cc, cc)
 
-never : {A : Type 0} {x b : ℕ} → out ≡ kept x b → A
+never : {A : Type 0} {x b : ℕ} → Worked.Out ≡ Worked.Kept x b → A
 never {A} {x} {b} e = let impossible : _≡_ {A = ℕ} 0 1 = cc in absurd (omega arith)
 
-never-out : {A : Type 0} {x b : ℕ} → kept x b ≡ out → A
+never-out : {A : Type 0} {x b : ℕ} → Worked.Kept x b ≡ Worked.Out → A
 never-out {A} {x} {b} e = let impossible : _≡_ {A = ℕ} 0 1 = cc in absurd (omega arith)
 
 module _ (d : Differencing) (stored : ℕ → ℕ) where
@@ -72,7 +75,7 @@ module _ (d : Differencing) (stored : ℕ → ℕ) where
       ap₂ (λ (last before : ℤ). pos (stored (suc (suc m))) +ℤ whole (d .zmin) +ℤ pos 2 *ℤ last -ℤ before) (k .last) (k .before)
       ∙ difference (d .zmin) (stored (suc (suc m))) x b
 
-  judged-kept : {m y c x b : ℕ} → Kept m y c → next (d .zmin) (stored (suc (suc m))) (kept y c) ≡ kept x b → Kept (suc m) x b
+  judged-kept : {m y c x b : ℕ} → Kept m y c → next (stored (suc (suc m)) + raisedBy (d .zmin)) (loweredBy (d .zmin)) (Worked.Kept y c) ≡ Worked.Kept x b → Kept (suc m) x b
   judged-kept {m} {y} {c} {x} {b} k e =
       split (ltb up down) (λ low. never (rw low at e))
       (λ high.
@@ -93,7 +96,7 @@ module _ (d : Differencing) (stored : ℕ → ℕ) where
       down = c + loweredBy (d .zmin)
 
   -- What is kept are the standard's integers, and they are in their range.
-  pub worked-sound : (m : ℕ) {x b : ℕ} → worked d stored m ≡ kept x b → Kept m x b
+  pub worked-sound : (m : ℕ) {x b : ℕ} → worked d stored m ≡ Worked.Kept x b → Kept m x b
   unfolding worked integer
   worked-sound zero {x} {b} e =
       split (leb (d .first) mostX && leb (d .second) mostX)
@@ -109,27 +112,27 @@ module _ (d : Differencing) (stored : ℕ → ℕ) where
       (λ fails. never (rw fails at e))
   worked-sound (suc m) {x} {b} e = by (λ y c h. worked-sound m h) (worked d stored m) refl e
     where
-      by : ((y c : ℕ) → worked d stored m ≡ kept y c → Kept m y c) → (w : Worked) → worked d stored m ≡ w → next (d .zmin) (stored (suc (suc m))) w ≡ kept x b → Kept (suc m) x b
-      by sound (kept y c) h e = judged-kept (sound y c h) e
-      by sound out h e = never e
+      by : ((y c : ℕ) → worked d stored m ≡ Worked.Kept y c → Kept m y c) → (w : declared.Worked) → worked d stored m ≡ w → next (stored (suc (suc m)) + raisedBy (d .zmin)) (loweredBy (d .zmin)) w ≡ Worked.Kept x b → Kept (suc m) x b
+      by sound (Worked.Kept y c) h e = judged-kept (sound y c h) e
+      by sound Worked.Out h e = never e
 
   -- Where integers are kept, those before them were.
-  kept-before : (m : ℕ) {x b : ℕ} → worked d stored (suc m) ≡ kept x b → (y : ℕ) × (c : ℕ) × (worked d stored m ≡ kept y c)
+  kept-before : (m : ℕ) {x b : ℕ} → worked d stored (suc m) ≡ Worked.Kept x b → (y : ℕ) × (c : ℕ) × (worked d stored m ≡ Worked.Kept y c)
   unfolding worked
   kept-before m {x} {b} e = by (worked d stored m) refl e
     where
-      by : (w : Worked) → worked d stored m ≡ w → next (d .zmin) (stored (suc (suc m))) w ≡ kept x b → (y : ℕ) × (c : ℕ) × (worked d stored m ≡ kept y c)
-      by (kept y c) h e = (y, c, h)
-      by out h e = never e
+      by : (w : declared.Worked) → worked d stored m ≡ w → next (stored (suc (suc m)) + raisedBy (d .zmin)) (loweredBy (d .zmin)) w ≡ Worked.Kept x b → (y : ℕ) × (c : ℕ) × (worked d stored m ≡ Worked.Kept y c)
+      by (Worked.Kept y c) h e = (y, c, h)
+      by Worked.Out h e = never e
 
   fits : {z : ℤ} {x : ℕ} → z ≡ pos x → x ≤ mostX → isPacked z ≡ true
   fits {z} {x} e h = ap isPacked e ∙ le-leb x mostX h
 
   -- All integers up to those that are kept are in their range.
-  pub worked-range : (m : ℕ) {x b : ℕ} → worked d stored m ≡ kept x b → (j : ℕ) → j ≤ suc m → isPacked (integer d stored j) ≡ true
+  pub worked-range : (m : ℕ) {x b : ℕ} → worked d stored m ≡ Worked.Kept x b → (j : ℕ) → j ≤ suc m → isPacked (integer d stored j) ≡ true
   worked-range m {x} {b} e zero h = first m e
     where
-      first : (m : ℕ) {x b : ℕ} → worked d stored m ≡ kept x b → isPacked (integer d stored zero) ≡ true
+      first : (m : ℕ) {x b : ℕ} → worked d stored m ≡ Worked.Kept x b → isPacked (integer d stored zero) ≡ true
       first zero e = let k = worked-sound zero e in fits (k .before) (k .beforeFits)
       first (suc m) e = first m (kept-before m e .2)
   worked-range zero {x} {b} e (suc j) h =
@@ -150,7 +153,7 @@ module _ (d : Differencing) (stored : ℕ → ℕ) where
     pub asked : which ≤ suc m
     pub outside : isPacked (integer d stored which) ≡ false
 
-  judged-out : {m y c : ℕ} → Kept m y c → next (d .zmin) (stored (suc (suc m))) (kept y c) ≡ out → Beyond (suc m)
+  judged-out : {m y c : ℕ} → Kept m y c → next (stored (suc (suc m)) + raisedBy (d .zmin)) (loweredBy (d .zmin)) (Worked.Kept y c) ≡ Worked.Out → Beyond (suc m)
   judged-out {m} {y} {c} k e =
       split (ltb up down)
       (λ low. record { which = suc (suc m); asked = omega arith; outside = ap isPacked (more k) ∙ below up down (ltb-true up down low) })
@@ -166,7 +169,7 @@ module _ (d : Differencing) (stored : ℕ → ℕ) where
       down = c + loweredBy (d .zmin)
 
   -- Where nothing is kept, one of the standard's integers is out of its range.
-  pub worked-out : (m : ℕ) → worked d stored m ≡ out → Beyond m
+  pub worked-out : (m : ℕ) → worked d stored m ≡ Worked.Out → Beyond m
   unfolding worked integer
   worked-out zero e =
       split (leb (d .first) mostX)
@@ -176,6 +179,6 @@ module _ (d : Differencing) (stored : ℕ → ℕ) where
       (λ one. record { which = 0; asked = omega arith; outside = one })
   worked-out (suc m) e = by (λ h. worked-out m h) (worked d stored m) refl e
     where
-      by : (worked d stored m ≡ out → Beyond m) → (w : Worked) → worked d stored m ≡ w → next (d .zmin) (stored (suc (suc m))) w ≡ out → Beyond (suc m)
-      by earlier (kept y c) h e = judged-out (worked-sound m h) e
-      by earlier out h e = let b = earlier h in record { which = b .which; asked = omega (arith, b .asked); outside = b .outside }
+      by : (worked d stored m ≡ Worked.Out → Beyond m) → (w : declared.Worked) → worked d stored m ≡ w → next (stored (suc (suc m)) + raisedBy (d .zmin)) (loweredBy (d .zmin)) w ≡ Worked.Out → Beyond (suc m)
+      by earlier (Worked.Kept y c) h e = judged-out (worked-sound m h) e
+      by earlier Worked.Out h e = let b = earlier h in record { which = b .which; asked = omega (arith, b .asked); outside = b .outside }

@@ -2,13 +2,14 @@
 -- are packed; here they are whole numbers with a sign, and nothing limits them.
 use Prim.Native.Nat.{ℕ, zero, suc, _+_, _-_, _*_, _<_}
 use mathlib.Core.Path.{_≡_}
-use mathlib.Core.Bool.{cond}
+use mathlib.Core.Bool.{Bool, true, _&&_, cond}
 use mathlib.Core.List.{List}
 use lib.Dec.{ltb}
 use lib.IntN.{ℤ, pos, _+ℤ_, _-ℤ_, _*ℤ_}
 use Rattle.octets.specs.Places.{firstBit}
 use Rattle.octets.specs.Numbers.{whole}
 use Rattle.bits.specs.Bits.{bitsAt}
+use Rattle.doubles.specs.Doubles.{isPacked}
 use Rattle.representation.specs.declared.Grouping.{Grouping}
 use Rattle.packing.specs.declared.Differencing.{Differencing}
 use Rattle.packing.specs.declared.Layout.{Layout}
@@ -50,3 +51,8 @@ unfoldable pub integer : Differencing → (ℕ → ℕ) → ℕ → ℤ
 integer d stored zero = pos (d .first)
 integer d stored (suc zero) = pos (d .second)
 integer d stored (suc (suc m)) = pos (stored (suc (suc m))) +ℤ whole (d .zmin) +ℤ pos 2 *ℤ integer d stored (suc m) -ℤ integer d stored m
+
+-- Refusal 16: the integers of the first so many values are all from 0 to 2,147,483,647.
+unfoldable pub areInRange : (ℕ → ℤ) → ℕ → Bool
+areInRange x zero = true
+areInRange x (suc n) = areInRange x n && isPacked (x n)

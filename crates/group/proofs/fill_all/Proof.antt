@@ -1,0 +1,126 @@
+-- `group::fill_all` meets its contract: behind the pairs that are written first, what is left of the group goes on where they stopped.
+use mathlib.Core.Path.{_≡_, refl, sym, ap, _∙_}
+use Prim.Native.Nat.{_+_, _-_, _*_}
+use native.Mathlib.Omega.{arith}
+use borrow.Author.Needs.{needs}
+use Rattle.points.proofs.Laws.{written-then}
+use Rattle.group.specs.declared.Group.{Group}
+use Rattle.group.specs.declared.Worked.the-variants as Worked
+use Rattle.group.specs.Group.{workedBy, isKept, integerBy, behind}
+use Rattle.group.proofs.Steps.{kept-earlier}
+use Rattle.group.proofs.Pairs.{behind-kept, behind-integer, behind-limits}
+use Rattle.group.proofs.fill_all.Statement.{statement}
+use Rattle.group.proofs.fill_all.Tie as tie
+
+pairs-of-requires : tie.Need-pairs-of-requires
+pairs-of-requires c κs = search needs
+
+fill-each-requires : tie.Need-fill-each-requires
+fill-each-requires c κs = search needs
+
+same-length : tie.Need-same-length
+same-length c = search needs
+
+same-length-2 : tie.Need-same-length-2
+same-length-2 c = search needs
+
+returns : tie.Need-returns
+returns c = search needs
+
+fill-pairs-requires : tie.Need-fill-pairs-requires
+fill-pairs-requires c κs =
+    let paired = c .before .before .before in
+    let s = paired .before .before .before .before in
+    let a = s .args in
+    let pairs = paired .pairs-of .ensures in (
+      (s .pre .0, pairs .few, pairs .narrow (omega arith), pairs .inside (omega arith)),
+      (
+        kept-earlier (a .section .now) (a .group) (Worked.Kept (a .reached .x) (a .reached .before)) (a .group .count) (2 * paired .pairs-of .result) (pairs .few) (s .pre .1 .0),
+        (s .pre .1 .1 .0, omega (arith, pairs .few, s .pre .1 .1 .1)),
+      ),
+    )
+
+mul-behind : tie.Need-mul-behind
+mul-behind c = search needs
+
+behind-requires : tie.Need-behind-requires
+behind-requires c κs = search needs
+
+-- What is left of the group is kept as the whole of it is.
+left : (c : tie.After-behind) →
+    let paired = c .before .before .before .before .before .before .before .before .before in
+    let a = paired .before .before .before .before .args in
+    let rest = behind (a .group) (2 * paired .pairs-of .result) in
+    let r = c .before .before .before .before .before .fill-pairs .result in
+    workedBy (a .section .now) rest (Worked.Kept (r .x) (r .before)) (rest .count) ≡ workedBy (a .section .now) (a .group) (Worked.Kept (a .reached .x) (a .reached .before)) (a .group .count)
+left c =
+    let filled = c .before .before .before .before .before in
+    let paired = filled .before .before .before .before in
+    let a = paired .before .before .before .before .args in
+    let pairs = paired .pairs-of .result in
+    let all : 2 * pairs + (a .group .count - 2 * pairs) ≡ a .group .count = omega (arith, paired .pairs-of .ensures .few) in
+    behind-kept (a .section .now) (a .group) (a .reached .x) (a .reached .before) (2 * pairs) (filled .fill-pairs .ensures .0) (a .group .count - 2 * pairs)
+    ∙ ap (workedBy (a .section .now) (a .group) (Worked.Kept (a .reached .x) (a .reached .before))) all
+
+fill-each-requires-2 : tie.Need-fill-each-requires-2
+fill-each-requires-2 c κs =
+    let b = c .before .before in
+    let filled = b .before .before .before .before .before in
+    let paired = filled .before .before .before .before in
+    let s = paired .before .before .before .before in
+    let a = s .args in
+    let pairs = paired .pairs-of .result in
+    rw (b .behind .ensures) (
+      behind-limits (a .section .now) (a .group) (a .reached .x) (a .reached .before) (2 * pairs) (filled .fill-pairs .ensures .0) (s .pre .0) (paired .pairs-of .ensures .few),
+      (
+        ap isKept (left b) ∙ s .pre .1 .0,
+        (
+          (omega (arith, filled .fill-pairs .kept, s .pre .1 .1 .0), omega (arith, filled .fill-pairs .kept, s .pre .1 .1 .0)),
+          omega (arith, filled .fill-pairs .kept, s .pre .1 .1 .1, filled .fill-pairs .ensures .1 .used, paired .pairs-of .ensures .few),
+        ),
+      ),
+    )
+
+same-length-3 : tie.Need-same-length-3
+same-length-3 c = search needs
+
+same-length-4 : tie.Need-same-length-4
+same-length-4 c = search needs
+
+returns-2 : tie.Need-returns-2
+returns-2 c =
+    let each = c .before .before .before .before in
+    let b = each .before .before .before in
+    let filled = b .before .before .before .before .before in
+    let paired = filled .before .before .before .before in
+    let a = paired .before .before .before .before .args in
+    let run = a .section .now in
+    let pairs = paired .pairs-of .result in
+    let r = filled .fill-pairs .result in
+    let rest = behind (a .group) (2 * pairs) in
+    let all : 2 * pairs + rest .count ≡ a .group .count = omega (arith, paired .pairs-of .ensures .few) in (
+      sym (left b) ∙ ap (λ (g : Group). workedBy run g (Worked.Kept (r .x) (r .before)) (g .count)) (sym (b .behind .ensures)) ∙ each .fill-each2 .ensures .0,
+      rw all at (
+          written-then (λ _. 1) (λ i. i) (λ i. refl) (a .packing) (integerBy run (a .group) (a .reached .x) (a .reached .before)) (integerBy run rest (r .x) (r .before))
+          (filled .fill-pairs .ensures .1)
+          (rw (b .behind .ensures) at (each .fill-each2 .ensures .1))
+          (λ j h. behind-integer run (a .group) (a .reached .x) (a .reached .before) (2 * pairs) (filled .fill-pairs .ensures .0) j)
+          ),
+    )
+
+pub fill-all-spec : {M : Type 1} → statement M
+fill-all-spec =
+    tie.close
+    (tie.spec
+    pairs-of-requires
+    fill-each-requires
+    same-length
+    same-length-2
+    returns
+    fill-pairs-requires
+    mul-behind
+    behind-requires
+    fill-each-requires-2
+    same-length-3
+    same-length-4
+    returns-2)

@@ -1,0 +1,2 @@
+-- The integers of one group.
+pub mod Group

@@ -1,0 +1,28 @@
+-- Integers that are all in their range, and one that is not.
+use mathlib.Core.Path.{_≡_, refl}
+use mathlib.Core.Bool.{true, false}
+use Prim.Native.Nat.{ℕ, zero, suc, _<_}
+use native.Mathlib.Omega.{arith}
+use borrow.Author.Tests.{eqb-true, eqb-false}
+use lib.Dec.{eqb}
+use lib.IntN.{ℤ}
+use Rattle.octets.proofs.Cases.{split, both}
+use Rattle.doubles.specs.Doubles.{isPacked}
+use Rattle.integers.specs.Integers.{areInRange}
+
+module _ (x : ℕ → ℤ) where
+  pub in-range-all : (n : ℕ) → ((j : ℕ) → j < n → isPacked (x j) ≡ true) → areInRange x n ≡ true
+  unfolding areInRange
+  in-range-all zero h = refl
+  in-range-all (suc n) h = rw (in-range-all n (λ j l. h j (omega arith)), h n (omega arith))
+
+  pub in-range-one : (n : ℕ) {j : ℕ} → areInRange x n ≡ true → j < n → isPacked (x j) ≡ true
+  unfolding areInRange
+  in-range-one zero e h = absurd (omega arith)
+  in-range-one (suc n) {j} e h =
+      let parts = both (areInRange x n) (isPacked (x n)) e in
+      split (eqb j n) (λ last. rw (eqb-true j n last) (parts .1)) (λ earlier. in-range-one n (parts .0) (omega (arith, eqb-false j n earlier)))
+
+  pub in-range-out : (n : ℕ) {j : ℕ} → j < n → isPacked (x j) ≡ false → areInRange x n ≡ false
+  in-range-out n {j} h e =
+      split (areInRange x n) (λ all. let impossible : _≡_ {A = ℕ} 0 1 = cc (in-range-one n all h) in absurd (omega arith)) (λ fails. fails)
