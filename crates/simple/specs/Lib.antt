@@ -1,0 +1,2 @@
+-- The numbers of a stretch of points.
+pub mod Simple
