@@ -1,0 +1,7 @@
+-- The laws of the groups of a field.
+pub mod Bounds
+pub mod Joined
+pub mod Passed
+mod Turns
+mod All
+mod Marked

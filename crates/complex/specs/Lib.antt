@@ -1,0 +1,2 @@
+-- The groups of a field, one after the other.
+pub mod Complex
