@@ -1,0 +1,129 @@
+-- Document 01, "From X to a double" and "Refusals by number": the question decode. Integers and presence come first, and the doubles are made
+-- from them.
+use Prim.Native.Nat.{ℕ, _+_, _≤_}
+use mathlib.Core.Path.{_≡_}
+use mathlib.Core.Bool.{Bool, _&&_, cond}
+use mathlib.Core.List.{List}
+use lib.Dec.{T, leb}
+use lib.IntN.{ℤ, pos, natAbs}
+use lib.Ieee.{Float, binary32, ofBits}
+use lib.Ieee.Scale.{finite}
+use Rattle.rows.specs.Rows.{row, laid}
+use Rattle.sections.specs.Sections.{Lies, lengthAt, octetsIn}
+use Rattle.refusals.specs.declared.Refusal.{Refusal}
+use Rattle.refusals.specs.declared.Why.the-variants as Why
+use Rattle.refusals.specs.Refusals.{refusal}
+use Rattle.bits.specs.Bits.{bitAt}
+use Rattle.doubles.specs.declared.Packing.{Packing}
+use Rattle.doubles.specs.Doubles.{packingOf}
+use Rattle.geometry.specs.Positions.{pointsOf}
+use Rattle.representation.specs.declared.Representation.{Representation}
+use Rattle.representation.specs.declared.Template.{Template}
+use Rattle.representation.specs.declared.Template.the-variants as Template
+use Rattle.presence.specs.Presence.{bitmapLength, bitmapIn, onesBefore, presentAt, presentBefore}
+use Rattle.points.specs.Points.{doubleAt}
+use Rattle.integers.specs.Integers.{simpleInteger, areInRange}
+use Rattle.complex.specs.Complex.{groupsIn, integerIn}
+use Rattle.fields.specs.declared.Description.{Description}
+use Rattle.fields.specs.declared.Described.{Described}
+use Rattle.fields.specs.declared.Described.the-variants as Described
+use Rattle.fields.specs.Fields.{describe}
+use Rattle.decoding.specs.declared.Decoded.{Decoded}
+use Rattle.decoding.specs.declared.Decoded.the-variants as Decoded
+
+-- The packing record by the numbers of section 5, and the limits in which they lie where the section is taken.
+abbrev pub packingBy : Representation → Packing
+packingBy r = packingOf (r .r) (r .e) (r .d)
+
+pub record Rebuildable (r : Representation) : Type 0 where
+  pub finiteR : T (finite (ofBits binary32 (r .r)))
+  pub e127 : r .e .size ≤ 127
+  pub d22 : r .d .size ≤ 22
+
+module _ (file : List ℕ) (d : Description) where
+  -- The packed integer X numbered m, by the data template.
+  abbrev integerBy : Template → ℕ → ℤ
+  integerBy Template.Simple m = pos (simpleInteger (octetsIn file (d .starts .seven .0)) (d .representation .bits) m)
+  integerBy (Template.Complex g) m = integerIn (octetsIn file (d .starts .seven .0)) (groupsIn file (d .starts .seven .0) (d .representation .bits) g) m
+
+  abbrev pub integerOf : ℕ → ℤ
+  integerOf m = integerBy (d .representation .template) m
+
+  -- Refusal 16: one of the N integers is out of its range.
+  abbrev pub isDecodable : Bool
+  isDecodable = areInRange integerOf (d .representation .n)
+
+  -- Is point i present? And how many are before it: that many integers are packed before its own.
+  abbrev pub presentOf : ℕ → ℕ
+  presentOf i = presentAt file (d .presence) (pointsOf (d .grid)) i
+
+  abbrev pub rankOf : ℕ → ℕ
+  rankOf i = presentBefore file (d .presence) (pointsOf (d .grid)) i
+
+  -- The double of point i. An integer that is in its range is its own size.
+  abbrev pub doubleOf : ℕ → Float
+  doubleOf i = doubleAt (packingBy (d .representation)) (λ m. natAbs (integerOf m)) presentOf rankOf i
+
+  -- A description that describe has given of this file.
+  abbrev pub Known : Type 0
+  Known = (k : ℕ) × (describe file k ≡ Described.As d)
+
+  -- The bitmap of the section 6 at s tells which points are present.
+  pub record MarkedBy (s : ℕ) : Type 0 where
+    pub lies : Lies file s
+    pub fits : lengthAt file s ≡ bitmapLength (pointsOf (d .grid))
+    pub present : (i : ℕ) → presentOf i ≡ bitAt (bitmapIn file s (pointsOf (d .grid))) i
+    pub ranked : (i : ℕ) → rankOf i ≡ onesBefore (bitmapIn file s (pointsOf (d .grid))) i
+
+-- Refusal 15: the points do not fit from the start index on into both runs.
+abbrev pub hasRoom : ℕ → ℕ → ℕ → ℕ → Bool
+hasRoom start points values presence = leb (start + points) values && leb (start + points) presence
+
+-- What comes of decode: the point count, with a double and a presence for each point, or a refusal.
+pub data Outcome : Type 0 where
+  gives : ℕ → List Float → List ℕ → Outcome
+  refuses : Refusal → Outcome
+
+module _ (file : List ℕ) where
+  -- Where there is room, 16 is the last refusal.
+  abbrev pub stretchOf : Description → Outcome
+  stretchOf d =
+      cond (isDecodable file d)
+      (gives (pointsOf (d .grid)) (row (doubleOf file d) (pointsOf (d .grid))) (row (presentOf file d) (pointsOf (d .grid))))
+      (refuses (refusal Why.ValueOutOfRange (d .starts .seven .0)))
+
+  module _ (start values presence : ℕ) where
+    -- Before it comes 15, and before that come the refusals of describe.
+    abbrev pub outcomeOf : Description → Outcome
+    outcomeOf d = cond (hasRoom start (pointsOf (d .grid)) values presence) (stretchOf d) (refuses (refusal Why.NoRoom 0))
+
+    abbrev pub outcomeBy : Described → Outcome
+    outcomeBy (Described.As d) = outcomeOf d
+    outcomeBy (Described.Refused r) = refuses r
+
+-- The outcome for field k, with runs of these lengths.
+abbrev pub outcome : List ℕ → ℕ → ℕ → ℕ → ℕ → Outcome
+outcome file k start values presence = outcomeBy file start values presence (describe file k)
+
+-- The answer.
+abbrev pub answerOf : Outcome → Decoded
+answerOf (gives points doubles marks) = Decoded.Points points
+answerOf (refuses r) = Decoded.Refused r
+
+-- What the field's own stretch of both runs holds afterwards. After a refusal it is as it was.
+abbrev pub valuesOf : List Float → Outcome → List Float
+valuesOf stretch (gives points doubles marks) = doubles
+valuesOf stretch (refuses r) = stretch
+
+abbrev pub presenceOf : List ℕ → Outcome → List ℕ
+presenceOf stretch (gives points doubles marks) = marks
+presenceOf stretch (refuses r) = stretch
+
+-- What the whole runs hold: the field's stretch from the start index on, and all else as it was.
+abbrev pub valuesAfter : ℕ → List Float → Outcome → List Float
+valuesAfter start values (gives points doubles marks) = laid values start doubles
+valuesAfter start values (refuses r) = values
+
+abbrev pub presenceAfter : ℕ → List ℕ → Outcome → List ℕ
+presenceAfter start presence (gives points doubles marks) = laid presence start marks
+presenceAfter start presence (refuses r) = presence

@@ -1,0 +1,2 @@
+-- What decode answers and writes.
+pub mod Decoding
