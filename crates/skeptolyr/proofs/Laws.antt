@@ -1,5 +1,5 @@
--- What C learns of a file from the one number that it is given: whether the file is accepted, and then both counts, or else the refusal and its
--- place.
+-- What C learns from the one number that it is given: of a file, whether it is accepted, and then both counts; of a field, its point count; or
+-- else the refusal and its place.
 use Prim.Native.Nat.{ℕ, _/_, _%_, _^_}
 use mathlib.Core.Path.{_≡_, ap, subst, _∙_}
 use mathlib.Core.List.{List}
@@ -10,7 +10,10 @@ use Rattle.refusals.proofs.Laws.{Told, code-tells}
 use Rattle.tiling.specs.declared.Checked.the-variants as Checked
 use Rattle.tiling.specs.Tiling.{check}
 use Rattle.tiling.proofs.Bounds.{Small, check-bounded}
-use Rattle.skeptolyr.specs.Codes.{checkCode}
+use Rattle.decoding.specs.declared.Decoded.the-variants as Decoded
+use Rattle.decoding.specs.Decoding.{outcome, answerOf}
+use Rattle.decoding.proofs.Laws.{Small as DecodedSmall, decode-small}
+use Rattle.skeptolyr.specs.Codes.{checkCode, decodeCode}
 
 -- The top bit of an accepted file's number is clear, and both counts come back by division and remainder.
 pub record Counted (code m n : ℕ) : Type 0 where
@@ -31,3 +34,15 @@ module _ (file : List ℕ) where
 -- No number says both: an accepted file and a refused one never have the same.
 pub never-both : (file other : List ℕ) {m n : ℕ} {r : Refusal} → check file ≡ Checked.Counts m n → check other ≡ Checked.Refused r → checkCode (check file) ≡ checkCode (check other) → ⊥
 never-both file other h i same = let told = refused-tells other i in omega (arith, accepted-tells file h .isAccepted, told .1 .isRefusal, same ∙ told .0)
+
+-- The top bit of decode's number says whether it is a refusal, and behind it stands the point count, or the refusal's number and its place.
+module _ (file : List ℕ) (k start values presence : ℕ) where
+  pub decoded-tells : {points : ℕ} → answerOf (outcome file k start values presence) ≡ Decoded.Points points →
+      (decodeCode (answerOf (outcome file k start values presence)) ≡ points) × (points / 2 ^ 63 ≡ 0)
+  decoded-tells {points} h =
+      let small : DecodedSmall (Decoded.Points points) = subst DecodedSmall h (decode-small file k start values presence) in (ap decodeCode h, omega arith)
+
+  pub decode-refused-tells : {r : Refusal} → answerOf (outcome file k start values presence) ≡ Decoded.Refused r →
+      (decodeCode (answerOf (outcome file k start values presence)) ≡ codeOf r) × Told r
+  decode-refused-tells {r} h =
+      let small : DecodedSmall (Decoded.Refused r) = subst DecodedSmall h (decode-small file k start values presence) in (ap decodeCode h, code-tells r (omega arith))

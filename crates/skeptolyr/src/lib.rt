@@ -1,7 +1,10 @@
 // What C calls: numbers and lent slices go in, and one number of 64 bits comes out.
 ghost use mathlib.Core.Path.{_≡_};
+ghost use lib.ListN.{length};
 ghost use Rattle.tiling.specs.Tiling.{check};
-ghost use Rattle.skeptolyr.specs.Codes.{checkCode};
+ghost use Rattle.decoding.specs.Decoding.{outcome, answerOf, valuesAfter, presenceAfter};
+ghost use Rattle.skeptolyr.specs.Codes.{checkCode, decodeCode};
+use decoding::Decoded;
 use tiling::Checked;
 
 // Checks a file: messages x 2^32 + fields, or 2^63 + number x 2^32 + place.
@@ -12,5 +15,24 @@ pub extern "C" fn skeptolyr_check(file: &[u8]) -> u64
     match tiling::check(file) {
         Checked::Counts { messages, fields } => messages as u64 * 0x1_0000_0000 + fields as u64,
         Checked::Refused(refusal) => refusals::code_of(refusal),
+    }
+}
+
+// Decodes field `k` into both runs, from `start` on: the point count, or 2^63 + number x 2^32 + place.
+#[no_mangle]
+pub extern "C" fn skeptolyr_decode(
+    file: &[u8],
+    k: usize,
+    start: usize,
+    values: &mut [f64],
+    presence: &mut [u8],
+) -> u64
+    ensures { λ r. ⌜ r ≡ decodeCode (answerOf (outcome (now (file .entry)) k start (length (now (values .entry))) (length (now (presence .entry))))) ⌝ }
+    ensures { λ _. ⌜ now (values .exit) ≡ valuesAfter start (now (values .entry)) (outcome (now (file .entry)) k start (length (now (values .entry))) (length (now (presence .entry)))) ⌝ }
+    ensures { λ _. ⌜ now (presence .exit) ≡ presenceAfter start (now (presence .entry)) (outcome (now (file .entry)) k start (length (now (values .entry))) (length (now (presence .entry)))) ⌝ }
+{
+    match decoding::decode(file, k, start, values, presence) {
+        Decoded::Points(points) => points as u64,
+        Decoded::Refused(refusal) => refusals::code_of(refusal),
     }
 }
