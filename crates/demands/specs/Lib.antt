@@ -1,2 +1,3 @@
 -- What is said of the whole reader.
 pub mod Examples
+pub mod Decoded
