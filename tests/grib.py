@@ -1,4 +1,5 @@
 """Makes GRIB files from document 01 alone: sections by their octets, fields, grids, messages."""
+import functools
 
 
 def number(value, octets):
@@ -66,11 +67,17 @@ def section6(indicator, bitmap=b''):
     return section(6, bytes([indicator]) + bitmap)
 
 
+@functools.lru_cache(maxsize=65536)
+def binary(value, bits):
+    """So many binary digits. Large fields repeat their values, and need not hold the digits of each anew."""
+    return format(value, '0%db' % bits)
+
+
 def packed(*runs):
     """Runs of values, each run (values, bits), with no gap between them; the last octet is filled with zeros."""
-    digits = ''.join(format(value, '0%db' % bits) for values, bits in runs if bits for value in values)
+    digits = ''.join(binary(value, bits) for values, bits in runs if bits for value in values)
     digits += '0' * (-len(digits) % 8)
-    return bytes(int(digits[i:i + 8], 2) for i in range(0, len(digits), 8))
+    return number(int('0' + digits, 2), len(digits) // 8)
 
 
 def section7(values, bits):

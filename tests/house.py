@@ -118,15 +118,17 @@ def unused_names():
 
 
 def short_functions():
-    """No function has more than 40 lines."""
+    """No function has more than 40 lines beside its contract."""
     for name in sources('.rt'):
         start = None
         for number, line in enumerate(lines_of(name), 1):
             if re.match(r'(pub )?(extern "C" )?fn ', line):
-                start = number
+                start, contract = number, 0
+            if start and re.match(r'    (requires|ensures) ', line):
+                contract += 1
             if line == '}' and start:
-                if number - start + 1 > 40:
-                    yield '%s:%d: %d lines' % (name, start, number - start + 1)
+                if number - start + 1 - contract > 40:
+                    yield '%s:%d: %d lines' % (name, start, number - start + 1 - contract)
                 start = None
 
 

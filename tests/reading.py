@@ -1,6 +1,8 @@
-"""An independent reading of document 01, from its paragraphs: check, describe and place, in Python's own whole numbers and times."""
+"""An independent reading of document 01, from its paragraphs: check, describe, decode and place, in Python's own whole numbers, times and
+doubles."""
 import datetime
 import functools
+import struct
 
 LARGEST = 268435456
 FOLLOWS = {0: {1}, 1: {3}, 3: {4}, 4: {5}, 5: {6}, 6: {7}, 7: {3, 4}}
@@ -201,14 +203,25 @@ def ceiling(bits):
     return -(-bits // 8)
 
 
-def bits_of(octets, first, count, width):
-    """Numbers of so many bits each, from an octet's start on."""
-    run = int.from_bytes(octets[first:first + ceiling(count * width)], 'big') >> -count * width % 8
-    return [run >> (count - 1 - i) * width & (1 << width) - 1 for i in range(count)]
+def bits_of(octets, first, runs):
+    """Numbers in order from an octet's start on, for each run (count, width) so many of so many bits, with no gap between runs."""
+    length = ceiling(sum(count * width for count, width in runs))
+    digits = bin(int.from_bytes(b'\1' + octets[first:first + length], 'big'))[3:]
+    found, at = [], 0
+    for count, width in runs:
+        end = at + count * width
+        found += [int(digits[i:i + width], 2) for i in range(at, end, width)] if width else [0] * count
+        at = end
+    return found
+
+
+def group_lengths(g, stored):
+    """The length of each group. What is stored for the last is not used."""
+    return [g['length'] + g['increment'] * scaled for scaled in stored[:-1]] + [g['last']]
 
 
 def packing(file, stretch, told):
-    """Judges section 7. For 5.3 it answers the groups as (width, length)."""
+    """Judges section 7. For 5.3 it answers the references, the groups as (length, width), and behind which octet their values start."""
     s = Octets(file, stretch, 14)
     if told['template'] == 0:
         s.demand(len(s) == 5 + ceiling(told['n'] * told['bits']))
@@ -217,14 +230,35 @@ def packing(file, stretch, told):
     at, runs = 5 + 3 * g['extra'], []
     for width in (told['bits'], g['width bits'], g['length bits']):
         s.demand(at + ceiling(g['count'] * width) <= len(s))
-        runs.append((at, width))
+        runs.append(bits_of(s.octets, at, [(g['count'], width)]))
         at += ceiling(g['count'] * width)
-    widths = [g['width'] + stored for stored in bits_of(s.octets, runs[1][0], g['count'], runs[1][1])]
-    lengths = [g['length'] + g['increment'] * stored for stored in bits_of(s.octets, runs[2][0], g['count'], runs[2][1])]
-    lengths[-1] = g['last']
+    widths, lengths = [g['width'] + stored for stored in runs[1]], group_lengths(g, runs[2])
     s.demand(max(widths) <= 31 and min(lengths) >= 1 and sum(lengths) == told['n'])
     s.demand(len(s) == at + ceiling(sum(width * length for width, length in zip(widths, lengths))))
-    return list(zip(widths, lengths))
+    return {'references': runs[0], 'groups': list(zip(lengths, widths)), 'values': at}
+
+
+# ---- integers and doubles
+
+def integers(file, stretch, told):
+    """X of each point present, in order."""
+    s = Octets(file, stretch, 16)
+    if told['template'] == 0:
+        return bits_of(s.octets, 5, [(told['n'], told['bits'])])
+    w, plan = told['groups']['extra'], told['plan']
+    found = [s(6, 5 + w), s(6 + w, 5 + 2 * w)]
+    zmin = s.signed(6 + 2 * w, 5 + 3 * w)
+    references = [reference for reference, (length, _) in zip(plan['references'], plan['groups']) for _ in range(length)]
+    for packed, reference in list(zip(bits_of(s.octets, plan['values'], plan['groups']), references))[2:]:
+        found.append(packed + reference + zmin + 2 * found[-1] - found[-2])
+    s.demand(min(found) >= 0 and max(found) <= 2147483647)
+    return found
+
+
+def double(told, x):
+    """R + X x 2^E rounded once, then divided by 10^D or multiplied by 10^-D and rounded once. Python's floats are doubles that round so."""
+    total = struct.unpack('>f', told['r'].to_bytes(4, 'big'))[0] + x * 2.0 ** told['e']
+    return total / float(10 ** told['d']) if told['d'] >= 0 else total * float(10 ** -told['d'])
 
 
 # ---- the questions
@@ -241,9 +275,22 @@ def describe(file, k):
     told.update(product(file, sections[4], told['reference']))
     told.update(representation(file, sections[5]))
     told['indicator'], told['bits present'] = presence(file, sections[6], bitmap, told['grid']['ni'] * told['grid']['nj'], told['n'])
-    packing(file, sections[7], told)
+    told['plan'] = packing(file, sections[7], told)
     told['starts'] = [sections[number][0] for number in (1, 3, 4, 5, 6, 7)]
     return told
+
+
+def decode(file, k, start, values_length, presence_length):
+    """The point count of field k; the presence of each point, 1 or 0, in a string; X of each point present; and the double of each point."""
+    told = describe(file, k)
+    points = told['grid']['ni'] * told['grid']['nj']
+    if start + points > min(values_length, presence_length):
+        raise Refused(15, 0)
+    xs = integers(file, fields(file)[k][1][7], told)
+    present = told['bits present'] or '1' * points
+    doubles = {x: double(told, x) for x in set(xs)}
+    following = map(doubles.__getitem__, xs)
+    return points, present, xs, [next(following) if bit == '1' else 0.0 for bit in present]
 
 
 def place(file, k, n):
