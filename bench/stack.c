@@ -1,0 +1,62 @@
+/* Prints the most stack that skeptolyr_decode takes for the first and the last field of the file on standard input, and for one behind them, in
+ * octets, with its return address and the arguments that are handed on the stack. The call runs on a stack of its own that was painted
+ * before, and the deepest octet that lost its paint tells. */
+#include "skeptolyr.h"
+
+#include <stdio.h>
+#include <stdlib.h>
+#include <string.h>
+#include <ucontext.h>
+
+enum { STACK = 1 << 20, MOST_POINTS = 16777216 };
+
+static uint8_t stack[STACK], *file, *presence, *caller;
+static double *values;
+static size_t length, asked;
+static volatile uint64_t answer;
+static ucontext_t outside, inside;
+
+static void decode(void)
+{
+    caller = __builtin_frame_address(0);
+    answer = skeptolyr_decode(file, length, asked, 0, values, MOST_POINTS, presence, MOST_POINTS);
+}
+
+/* How deep the call reaches below its caller's frame. What is reserved and never changed does not show, so a few octets may be missing. */
+static size_t depth(int paint)
+{
+    size_t kept = 0;
+    memset(stack, paint, STACK);
+    if (getcontext(&inside) != 0)
+        exit(2);
+    inside.uc_stack.ss_sp = stack;
+    inside.uc_stack.ss_size = STACK;
+    inside.uc_link = &outside;
+    makecontext(&inside, decode, 0);
+    if (swapcontext(&outside, &inside) != 0)
+        exit(2);
+    while (kept < STACK && stack[kept] == paint)
+        kept++;
+    return (size_t)(caller - stack) - kept;
+}
+
+int main(void)
+{
+    size_t room = ((size_t)1 << 28) + 1, most = 0;
+    file = malloc(room);
+    values = malloc(MOST_POINTS * sizeof *values);
+    presence = malloc(MOST_POINTS);
+    if (file == NULL || values == NULL || presence == NULL)
+        return 2;
+    length = fread(file, 1, room, stdin);
+    size_t fields = skeptolyr_fields(skeptolyr_check(file, length)), fields_asked[] = {0, fields - 1, fields};
+    for (size_t i = 0; i < 3; i++) {
+        for (int paint = 0; paint < 256; paint += 85) {
+            asked = fields_asked[i];
+            size_t deep = depth(paint);
+            most = deep > most ? deep : most;
+        }
+    }
+    printf("%zu\n", most);
+    return 0;
+}
