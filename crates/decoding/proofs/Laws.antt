@@ -11,10 +11,10 @@ use lib.Dec.{leb}
 use lib.IntN.{natAbs}
 use lib.ListN.{length}
 use lib.Ieee.{Float}
-use borrow.Rule.Slice.PartMut.{midOf, putMid, put-same}
+use borrow.Rule.Slice.PartMut.{midOf, putMid}
 use lib.Pow.{pow-pos, pow-mono}
-use Rattle.rows.specs.Rows.{row, laid}
-use Rattle.rows.proofs.Laws.{row-length, row-same, part-laid}
+use Rattle.rows.specs.Rows.{row}
+use Rattle.rows.proofs.Laws.{row-length, row-same, part-laid, part-kept}
 use Rattle.octets.specs.declared.FilePlace.{FilePlace}
 use Rattle.octets.specs.Numbers.{topBit}
 use Rattle.octets.proofs.Cases.{split, both}
@@ -231,24 +231,20 @@ pub no-room-outcome : (file : List ℕ) (start values presence : ℕ) (d : Descr
 no-room-outcome file start values presence d e = rw e
 
 -- The field's stretch, lent on and given back, lies where it lay.
-module _ (file : List ℕ) (d : Description) (start end : ℕ) (h : start ≤ end) (points : end - start ≡ pointsOf (d .grid)) where
-  pub values-laid : (values stretch : List Float) → end ≤ length values → stretch ≡ valuesOf (midOf start (end - start) values) (stretchOf file d) →
+module _ (file : List ℕ) (d : Description) (start end : ℕ) (points : end - start ≡ pointsOf (d .grid)) where
+  pub values-laid : (values stretch : List Float) → stretch ≡ valuesOf (midOf start (end - start) values) (stretchOf file d) →
       putMid start (end - start) values stretch ≡ valuesAfter start values (stretchOf file d)
-  values-laid values stretch fits e =
+  values-laid values stretch e =
       split (isDecodable file d)
-      (λ all.
-      let given : stretch ≡ row (doubleOf file d) (pointsOf (d .grid)) = rw all at e in
-      rw all (part-laid start end values stretch h (ap length given ∙ row-length (doubleOf file d) (pointsOf (d .grid)) ∙ sym points) ∙ ap (laid values start) given))
-      (λ fails. let kept : stretch ≡ midOf start (end - start) values = rw fails at e in rw fails (ap (putMid start (end - start) values) kept ∙ put-same start (end - start) values))
+      (λ all. rw all (part-laid start end values stretch (row (doubleOf file d) (pointsOf (d .grid))) (rw all at e) (row-length (doubleOf file d) (pointsOf (d .grid)) ∙ sym points)))
+      (λ fails. rw fails (part-kept start end values stretch (rw fails at e)))
 
-  pub presence-laid : (presence stretch : List ℕ) → end ≤ length presence → stretch ≡ presenceOf (midOf start (end - start) presence) (stretchOf file d) →
+  pub presence-laid : (presence stretch : List ℕ) → stretch ≡ presenceOf (midOf start (end - start) presence) (stretchOf file d) →
       putMid start (end - start) presence stretch ≡ presenceAfter start presence (stretchOf file d)
-  presence-laid presence stretch fits e =
+  presence-laid presence stretch e =
       split (isDecodable file d)
-      (λ all.
-      let given : stretch ≡ row (presentOf file d) (pointsOf (d .grid)) = rw all at e in
-      rw all (part-laid start end presence stretch h (ap length given ∙ row-length (presentOf file d) (pointsOf (d .grid)) ∙ sym points) ∙ ap (laid presence start) given))
-      (λ fails. let kept : stretch ≡ midOf start (end - start) presence = rw fails at e in rw fails (ap (putMid start (end - start) presence) kept ∙ put-same start (end - start) presence))
+      (λ all. rw all (part-laid start end presence stretch (row (presentOf file d) (pointsOf (d .grid))) (rw all at e) (row-length (presentOf file d) (pointsOf (d .grid)) ∙ sym points)))
+      (λ fails. rw fails (part-kept start end presence stretch (rw fails at e)))
 
 -- An answer of decode: its point count is that of a grid that is taken, and a refusal is placed within the largest file that is taken.
 abbrev pub Small : Decoded → Type 0

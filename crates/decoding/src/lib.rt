@@ -39,6 +39,7 @@ fn has_room(start: usize, points: u32, values: usize, presence: usize) -> bool
     points as usize <= presence - start
 }
 
+// Refusal 15.
 fn no_room() -> Decoded
     ensures { λ r. ⌜ r ≡ Decoded.Refused (refusal Why.NoRoom 0) ⌝ }
 {
@@ -48,6 +49,7 @@ fn no_room() -> Decoded
     })
 }
 
+// Refusal 16, of a field whose section 7 starts at `seven`.
 fn out_of_range(seven: FilePlace) -> Decoded
     ensures { λ r. ⌜ r ≡ Decoded.Refused (refusal Why.ValueOutOfRange (seven .0)) ⌝ }
 {
@@ -75,6 +77,7 @@ fn is_decodable(file: &[u8], description: Description) -> bool
     }
 }
 
+// The packing record of section 5's numbers.
 fn packing_of(representation: Representation) -> Packing
     requires { ⌜ Rebuildable representation ⌝ }
     ensures { λ p. ⌜ p ≡ packingBy representation ⌝ }

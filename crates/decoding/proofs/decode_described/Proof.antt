@@ -178,8 +178,8 @@ returns-2 c =
     let outcome = room-outcome (a .file .now) (a .start) (length (a .values .now)) (length (a .presence .now)) (a .description) (room tests) in (
       call .decode-all .ensures .0 ∙ ap answerOf outcome,
       (
-        values-laid (a .file .now) (a .description) (a .start) end (omega arith) (f .2) (a .values .now) _ (f .0) (call .decode-all .ensures .1 .0) ∙ ap (valuesAfter (a .start) (a .values .now)) outcome,
-        presence-laid (a .file .now) (a .description) (a .start) end (omega arith) (f .2) (a .presence .now) _ (f .1) (call .decode-all .ensures .1 .1) ∙ ap (presenceAfter (a .start) (a .presence .now)) outcome,
+        values-laid (a .file .now) (a .description) (a .start) end (f .2) (a .values .now) _ (call .decode-all .ensures .1 .0) ∙ ap (valuesAfter (a .start) (a .values .now)) outcome,
+        presence-laid (a .file .now) (a .description) (a .start) end (f .2) (a .presence .now) _ (call .decode-all .ensures .1 .1) ∙ ap (presenceAfter (a .start) (a .presence .now)) outcome,
       ),
     )
 
@@ -200,8 +200,8 @@ returns-3 c =
     let outcome = room-outcome (a .file .now) (a .start) (length (a .values .now)) (length (a .presence .now)) (a .description) (room tests) in (
       call .decode-marked .ensures .0 ∙ ap answerOf outcome,
       (
-        values-laid (a .file .now) (a .description) (a .start) end (omega arith) (f .2) (a .values .now) _ (f .0) (call .decode-marked .ensures .1 .0) ∙ ap (valuesAfter (a .start) (a .values .now)) outcome,
-        presence-laid (a .file .now) (a .description) (a .start) end (omega arith) (f .2) (a .presence .now) _ (f .1) (call .decode-marked .ensures .1 .1) ∙ ap (presenceAfter (a .start) (a .presence .now)) outcome,
+        values-laid (a .file .now) (a .description) (a .start) end (f .2) (a .values .now) _ (call .decode-marked .ensures .1 .0) ∙ ap (valuesAfter (a .start) (a .values .now)) outcome,
+        presence-laid (a .file .now) (a .description) (a .start) end (f .2) (a .presence .now) _ (call .decode-marked .ensures .1 .1) ∙ ap (presenceAfter (a .start) (a .presence .now)) outcome,
       ),
     )
 
@@ -222,8 +222,8 @@ returns-4 c =
     let outcome = room-outcome (a .file .now) (a .start) (length (a .values .now)) (length (a .presence .now)) (a .description) (room tests) in (
       call .decode-marked2 .ensures .0 ∙ ap answerOf outcome,
       (
-        values-laid (a .file .now) (a .description) (a .start) end (omega arith) (f .2) (a .values .now) _ (f .0) (call .decode-marked2 .ensures .1 .0) ∙ ap (valuesAfter (a .start) (a .values .now)) outcome,
-        presence-laid (a .file .now) (a .description) (a .start) end (omega arith) (f .2) (a .presence .now) _ (f .1) (call .decode-marked2 .ensures .1 .1) ∙ ap (presenceAfter (a .start) (a .presence .now)) outcome,
+        values-laid (a .file .now) (a .description) (a .start) end (f .2) (a .values .now) _ (call .decode-marked2 .ensures .1 .0) ∙ ap (valuesAfter (a .start) (a .values .now)) outcome,
+        presence-laid (a .file .now) (a .description) (a .start) end (f .2) (a .presence .now) _ (call .decode-marked2 .ensures .1 .1) ∙ ap (presenceAfter (a .start) (a .presence .now)) outcome,
       ),
     )
 
