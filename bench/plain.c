@@ -403,18 +403,29 @@ INLINE void fill_simple(const uint8_t *seven, unsigned bits, const struct packin
     }
 }
 
+/* The numbers of a group that are used, and what each adds to the step: of the field's first two numbers, `unused` are still to be passed over. */
+struct used {
+    uint64_t count, base;
+    unsigned width;
+};
+
+INLINE struct used next_group(const struct groups *g, uint32_t group, uint64_t *place, uint64_t *unused)
+{
+    const uint64_t length = group_length(g, group), passed = *unused < length ? *unused : length;
+    const struct used used = {length - passed, reference_of(g, group) + g->zmin, width_of(g, group)};
+    *unused -= passed;
+    *place += passed * used.width;
+    return used;
+}
+
 /* Is every X in its range? Sums wrap only behind an X that is not, and `seen` keeps that one's bits. */
 static int is_in_range(const struct groups *g)
 {
     uint64_t x = g->second, step = g->second - g->first, seen = g->first | g->second, place = g->packed, unused = 2;
     for (uint32_t group = 0; group < g->count && seen <= MOST; group++) {
-        const uint64_t length = group_length(g, group), base = reference_of(g, group) + g->zmin;
-        const unsigned width = width_of(g, group);
-        uint64_t i = unused < length ? unused : length;
-        unused -= i;
-        place += i * width;
-        for (; i < length; i++, place += width) {
-            step += bits_at(g->section, g->length, place, width) + base;
+        const struct used used = next_group(g, group, &place, &unused);
+        for (uint64_t i = 0; i < used.count; i++, place += used.width) {
+            step += bits_at(g->section, g->length, place, used.width) + used.base;
             x += step;
             seen |= x;
         }
@@ -428,13 +439,9 @@ INLINE void fill_groups(const struct groups *g, const struct packing *packing, i
     uint32_t point = put_next(to, bitmap, 0, value_of(packing, divides, g->first));
     point = put_next(to, bitmap, point, value_of(packing, divides, g->second));
     for (uint32_t group = 0; group < g->count; group++) {
-        const uint64_t length = group_length(g, group), base = reference_of(g, group) + g->zmin;
-        const unsigned width = width_of(g, group);
-        uint64_t i = unused < length ? unused : length;
-        unused -= i;
-        place += i * width;
-        for (; i < length; i++, place += width) {
-            step += bits_at(g->section, g->length, place, width) + base;
+        const struct used used = next_group(g, group, &place, &unused);
+        for (uint64_t i = 0; i < used.count; i++, place += used.width) {
+            step += bits_at(g->section, g->length, place, used.width) + used.base;
             x += step;
             point = put_next(to, bitmap, point, value_of(packing, divides, x));
         }

@@ -69,12 +69,9 @@ module _ (run : List ℕ) (g : Groups) (sound : Sound run g) where
       rw (add-one i) at (sound-more run (g .layout) (g .grouping) i (sound-before i (omega arith)) (here .0) (here .1))
 
   module _ {i : ℕ} (within : i < g .grouping .groups) where
-    -- A group has a width of at most 31 and a length of at least 1.
+    -- A group has a width of at most 31.
     pub width-fits : widthOf run (g .layout) (g .grouping) i ≤ 31
     width-fits = sound-widths run (g .layout) (g .grouping) (g .grouping .groups) (sound .sound) within .0
-
-    pub length-some : 1 ≤ lengthOf run (g .layout) (g .grouping) i
-    length-some = sound-widths run (g .layout) (g .grouping) (g .grouping .groups) (sound .sound) within .1
 
     -- Its values and those before it are no more than a field may have.
     pub values-fit : valuesBefore run (g .layout) (g .grouping) i + lengthOf run (g .layout) (g .grouping) i ≤ 16777216

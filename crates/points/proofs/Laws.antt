@@ -1,15 +1,13 @@
--- The points that integers are written to, one by one: a missing one, and a present one.
+-- The points that integers are written to: one by one, one stretch behind another, and as part of a field.
 use mathlib.Core.Path.{_≡_, refl, sym, ap, _∙_}
-use mathlib.Core.Bool.{false}
 use mathlib.Core.List.{List}
 use Prim.Native.Nat.{ℕ, zero, suc, _+_, _-_, _≤_, _<_}
 use native.Mathlib.Numerals.{add-one}
 use native.Mathlib.Omega.{arith}
 use borrow.Author.Tests.{ltb-true, ltb-false}
 use lib.Dec.{ltb}
-use lib.IntN.{pos}
 use lib.ListN.{length, set}
-use lib.Ieee.{Float, fin}
+use lib.Ieee.{Float}
 use Rattle.octets.proofs.Cases.{split}
 use Rattle.rows.specs.Rows.{filled}
 use Rattle.rows.proofs.Laws.{filled-length, filled-next, filled-same, filled-on}
@@ -32,17 +30,6 @@ module _ (mark rank : ℕ → ℕ) (more : (i : ℕ) → rank (i + 1) ≡ rank i
       }
 
   module _ {count point i : ℕ} {values written : List Float} {presence marked : List ℕ} (w : Written mark rank p x count point i values written presence marked) (h : i < length values) where
-    -- A missing point.
-    pub written-missing : mark i ≡ 0 → Written mark rank p x count point (i + 1) values (set written i (fin false 0 (pos 0))) presence (set marked i 0)
-    written-missing e =
-        record {
-          onward = omega (arith, w .onward);
-          within = omega arith;
-          used = omega (arith, w .used, more i);
-          doubles = filled-next (doubleAt p x mark (λ i. rank i - rank point)) point i values written (w .onward) (w .doubles) (sym (ap (λ (m : ℕ). pointValue p m (x (rank i - rank point))) e));
-          marks = filled-next mark point i presence marked (w .onward) (w .marks) (sym e);
-        }
-
     -- A present point, with the next integer.
     pub written-present : {y : ℕ} → mark i ≡ 1 → y ≡ x count → Written mark rank p x (count + 1) point (i + 1) values (set written i (rebuilt p y)) presence (set marked i 1)
     written-present {y} e same =

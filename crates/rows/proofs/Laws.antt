@@ -103,13 +103,9 @@ module _ {A : Type 0} where
   filled-whole f n run e =
       filled-start f n run (omega arith) ∙ ap (λ (rest : List A). row f n ++ rest) (ap (λ (k : ℕ). drop k run) e ∙ drop-length run) ∙ append-nil (row f n)
 
-  -- Where the element behind a filled start is set, the start is longer by one; and one that reaches the end is a row.
-  module _ (f : ℕ → A) (i : ℕ) (run now : List A) (so-far : now ≡ filled f 0 i run) where
-    pub start-next : (x : A) → x ≡ f i → set now i x ≡ filled f 0 (i + 1) run
-    start-next x same = rw (sub-zero (i + 1)) at (filled-next f 0 i run now (omega arith) (rw (sub-zero i) so-far) same)
-
-    pub start-end : (n : ℕ) → i ≡ n → n ≡ length run → now ≡ row f n
-    start-end n all whole = so-far ∙ filled-whole f i run (all ∙ whole) ∙ ap (row f) all
+  -- The same where it was filled up to a place that is known to be the end.
+  pub start-end : (f : ℕ → A) (i : ℕ) (run now : List A) → now ≡ filled f 0 i run → (n : ℕ) → i ≡ n → n ≡ length run → now ≡ row f n
+  start-end f i run now so-far n all whole = so-far ∙ filled-whole f i run (all ∙ whole) ∙ ap (row f) all
 
   -- A part that was lent and came back: with these elements, or as it was.
   pub part-laid : (at end : ℕ) (run part elements : List A) → part ≡ elements → length elements ≡ end - at → putMid at (end - at) run part ≡ laid run at elements
