@@ -7,6 +7,8 @@ use native.Mathlib.Omega.{arith}
 use Rattle.octets.proofs.Cases.{split, chosen}
 use Rattle.sections.specs.Sections.{held}
 use Rattle.refusals.specs.declared.Refusal.{Refusal}
+use Rattle.refusals.specs.declared.Why.the-variants as Why
+use Rattle.refusals.specs.Refusals.{refusal}
 use Rattle.geometry.specs.declared.Grid.{Grid}
 use Rattle.geometry.specs.Geometry.{isTaken}
 use Rattle.geometry.specs.Positions.{Measured}
@@ -57,16 +59,16 @@ grid-taken file s e =
     (λ fails. absurd (never (sym (unscanned file s regular fails) ∙ e))))
     (λ fails. absurd (never (sym (irregular file s fails) ∙ e)))
 
--- Where a section 3 is refused, the refusal stands at it.
-abbrev StandsAt : ℕ → Gridded → Type 0
-StandsAt s (Gridded.On g) = Unit {0}
-StandsAt s (Gridded.Refused r) = r .place .0 ≡ s
+-- A section 3 is refused by one refusal alone, which stands at it.
+abbrev RefusedAt : ℕ → Gridded → Type 0
+RefusedAt s (Gridded.On g) = Unit {0}
+RefusedAt s (Gridded.Refused r) = r ≡ refusal Why.BadGrid s
 
-radius-stands : (file : List ℕ) (s : ℕ) (radius : Radius) → StandsAt s (ofRadius file s radius)
-radius-stands file s (Radius.Metres radius) = chosen (StandsAt s) (isTaken (numbersAt file s radius) (held file s 7 10)) (Gridded.On (numbersAt file s radius)) (refused s) tt refl
+radius-stands : (file : List ℕ) (s : ℕ) (radius : Radius) → RefusedAt s (ofRadius file s radius)
+radius-stands file s (Radius.Metres radius) = chosen (RefusedAt s) (isTaken (numbersAt file s radius) (held file s 7 10)) (Gridded.On (numbersAt file s radius)) (refused s) tt refl
 radius-stands file s Radius.Unknown = refl
 
-pub refused-place : (file : List ℕ) (s : ℕ) {r : Refusal} → gridAt file s ≡ Gridded.Refused r → r .place .0 ≡ s
+pub refused-is : (file : List ℕ) (s : ℕ) {r : Refusal} → gridAt file s ≡ Gridded.Refused r → r ≡ refusal Why.BadGrid s
 unfolding gridAt
-refused-place file s said =
-    subst (StandsAt s) said (chosen (StandsAt s) (isRegular file s && isScanned file s) (ofRadius file s (radiusAt file s)) (refused s) (radius-stands file s (radiusAt file s)) refl)
+refused-is file s said =
+    subst (RefusedAt s) said (chosen (RefusedAt s) (isRegular file s && isScanned file s) (ofRadius file s (radiusAt file s)) (refused s) (radius-stands file s (radiusAt file s)) refl)

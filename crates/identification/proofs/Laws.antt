@@ -10,6 +10,8 @@ use Rattle.octets.specs.Places.{placeOf}
 use Rattle.octets.proofs.Cases.{split, both, chosen}
 use Rattle.sections.specs.Sections.{octet, held, lengthAt}
 use Rattle.refusals.specs.declared.Refusal.{Refusal}
+use Rattle.refusals.specs.declared.Why.the-variants as Why
+use Rattle.refusals.specs.Refusals.{refusal}
 use Rattle.calendar.specs.declared.Reading.{Reading}
 use Rattle.calendar.specs.declared.Reading.the-variants as Reading
 use Rattle.calendar.specs.Calendar.{timeAt, Gregorian}
@@ -67,16 +69,16 @@ module _ (file : List ℕ) (s : ℕ) where
       split (isIdentification file s) (λ e. timed-gregorian (timeAt file (placeOf s 13)) refl (sym (follows-time e refl) ∙ said))
       (λ e. let impossible : _≡_ {A = ℕ} 0 1 = cc (refused-by-octets e) in absurd (omega arith))
 
--- Where a section 1 is refused, the refusal stands at it.
-abbrev StandsAt : ℕ → Identified → Type 0
-StandsAt s (Identified.As i) = Unit {0}
-StandsAt s (Identified.Refused r) = r .place .0 ≡ s
+-- A section 1 is refused by one refusal alone, which stands at it.
+abbrev RefusedAt : ℕ → Identified → Type 0
+RefusedAt s (Identified.As i) = Unit {0}
+RefusedAt s (Identified.Refused r) = r ≡ refusal Why.BadIdentification s
 
-timed-stands : (file : List ℕ) (s : ℕ) (time : Reading) → StandsAt s (timed file s time)
+timed-stands : (file : List ℕ) (s : ℕ) (time : Reading) → RefusedAt s (timed file s time)
 timed-stands file s (Reading.At t) = tt
 timed-stands file s Reading.NoTime = refl
 
-pub refused-place : (file : List ℕ) (s : ℕ) {r : Refusal} → identificationAt file s ≡ Identified.Refused r → r .place .0 ≡ s
+pub refused-is : (file : List ℕ) (s : ℕ) {r : Refusal} → identificationAt file s ≡ Identified.Refused r → r ≡ refusal Why.BadIdentification s
 unfolding identificationAt
-refused-place file s said =
-    subst (StandsAt s) said (chosen (StandsAt s) (isIdentification file s) (timed file s (timeAt file (placeOf s 13))) (refused s) (timed-stands file s (timeAt file (placeOf s 13))) refl)
+refused-is file s said =
+    subst (RefusedAt s) said (chosen (RefusedAt s) (isIdentification file s) (timed file s (timeAt file (placeOf s 13))) (refused s) (timed-stands file s (timeAt file (placeOf s 13))) refl)

@@ -20,6 +20,8 @@ use Rattle.sections.specs.Sections.{Lies, octet, lengthAt}
 use Rattle.bits.specs.Bits.{bitAt, bitsAt, octetsOf}
 use Rattle.bits.proofs.Laws.{bit-lt, bits-of-octets}
 use Rattle.refusals.specs.declared.Refusal.{Refusal}
+use Rattle.refusals.specs.declared.Why.the-variants as Why
+use Rattle.refusals.specs.Refusals.{refusal}
 use Rattle.walk.specs.declared.Bitmap.{Bitmap}
 use Rattle.walk.specs.declared.Bitmap.the-variants as Bitmap
 use Rattle.presence.specs.declared.Presence as declared
@@ -182,25 +184,25 @@ module _ (file : List ℕ) (s : ℕ) (bitmap : Bitmap) (points n : ℕ) where
   pub marked-earlier : {q : FilePlace} → presenceAt file s bitmap points n ≡ Marked.As (Presence.Earlier q) → (bitmap ≡ Bitmap.At q) × (lengthAt file (q .0) ≡ bitmapLength points)
   marked-earlier e = let told = marked e in (told .0, told .1 .length)
 
--- Where a section 6 is refused, the refusal stands at it, also where the fault is in another section's bitmap.
-abbrev StandsAt : ℕ → Marked → Type 0
-StandsAt s (Marked.As p) = Unit {0}
-StandsAt s (Marked.Refused r) = r .place .0 ≡ s
+-- A section 6 is refused by one refusal alone, which stands at it, also where the fault is in another section's bitmap.
+abbrev RefusedAt : ℕ → Marked → Type 0
+RefusedAt s (Marked.As p) = Unit {0}
+RefusedAt s (Marked.Refused r) = r ≡ refusal Why.BadBitmap s
 
 module _ (file : List ℕ) (s points n : ℕ) where
-  earlier-stands : (bitmap : Bitmap) → StandsAt s (earlierAt file s bitmap points n)
+  earlier-stands : (bitmap : Bitmap) → RefusedAt s (earlierAt file s bitmap points n)
   earlier-stands Bitmap.Absent = refl
-  earlier-stands (Bitmap.At p) = chosen (StandsAt s) (isBitmap file (p .0) points n) (Marked.As (Presence.Earlier p)) (refused s) tt refl
+  earlier-stands (Bitmap.At p) = chosen (RefusedAt s) (isBitmap file (p .0) points n) (Marked.As (Presence.Earlier p)) (refused s) tt refl
 
-  presence-stands : (bitmap : Bitmap) → StandsAt s (presenceAt file s bitmap points n)
+  presence-stands : (bitmap : Bitmap) → RefusedAt s (presenceAt file s bitmap points n)
   unfolding presenceAt
   presence-stands bitmap =
-      let own = chosen (StandsAt s) (isBitmap file s points n) (Marked.As (Presence.Own (at s))) (refused s) tt refl in
-      let all = chosen (StandsAt s) (eqb points n) (Marked.As Presence.All) (refused s) tt refl in
-      let all-only = chosen (StandsAt s) (eqb (octet file s 6) 255) (allAt s points n) (refused s) all refl in
-      let without = chosen (StandsAt s) (eqb (octet file s 6) 254) (earlierAt file s bitmap points n) _ (earlier-stands bitmap) all-only in
-      let six-octets = chosen (StandsAt s) (eqb (lengthAt file s) 6) (withoutBitmap file s bitmap points n) (refused s) without refl in
-      chosen (StandsAt s) (ltb (lengthAt file s) 6) (refused s) _ refl (chosen (StandsAt s) (eqb (octet file s 6) 0) (ownAt file s points n) _ own six-octets)
+      let own = chosen (RefusedAt s) (isBitmap file s points n) (Marked.As (Presence.Own (at s))) (refused s) tt refl in
+      let all = chosen (RefusedAt s) (eqb points n) (Marked.As Presence.All) (refused s) tt refl in
+      let all-only = chosen (RefusedAt s) (eqb (octet file s 6) 255) (allAt s points n) (refused s) all refl in
+      let without = chosen (RefusedAt s) (eqb (octet file s 6) 254) (earlierAt file s bitmap points n) _ (earlier-stands bitmap) all-only in
+      let six-octets = chosen (RefusedAt s) (eqb (lengthAt file s) 6) (withoutBitmap file s bitmap points n) (refused s) without refl in
+      chosen (RefusedAt s) (ltb (lengthAt file s) 6) (refused s) _ refl (chosen (RefusedAt s) (eqb (octet file s 6) 0) (ownAt file s points n) _ own six-octets)
 
-pub refused-place : (file : List ℕ) (s : ℕ) (bitmap : Bitmap) (points n : ℕ) {r : Refusal} → presenceAt file s bitmap points n ≡ Marked.Refused r → r .place .0 ≡ s
-refused-place file s bitmap points n said = subst (StandsAt s) said (presence-stands file s points n bitmap)
+pub refused-is : (file : List ℕ) (s : ℕ) (bitmap : Bitmap) (points n : ℕ) {r : Refusal} → presenceAt file s bitmap points n ≡ Marked.Refused r → r ≡ refusal Why.BadBitmap s
+refused-is file s bitmap points n said = subst (RefusedAt s) said (presence-stands file s points n bitmap)

@@ -10,6 +10,8 @@ use Rattle.octets.specs.Places.{placeOf}
 use Rattle.octets.proofs.Cases.{split, chosen}
 use Rattle.sections.specs.Sections.{octet, held}
 use Rattle.refusals.specs.declared.Refusal.{Refusal}
+use Rattle.refusals.specs.declared.Why.the-variants as Why
+use Rattle.refusals.specs.Refusals.{refusal}
 use Rattle.calendar.specs.declared.Time.{Time}
 use Rattle.calendar.specs.declared.Unit.{Unit}
 use Rattle.calendar.specs.declared.Unit.the-variants as Unit
@@ -157,21 +159,21 @@ module _ (file : List ℕ) (s : ℕ) (reference : Time) {d : ProductDefinition} 
   pub end-is-reached : Gregorian reference → productDefinitionAt file s reference ≡ Defined.As d → d .product ≡ Product.Interval end kind → (u : Unit) × (plus (d .valid) (held file s 50 53) u ≡ Later.At end)
   end-is-reached h e interval = later-is-plus (d .valid) end (held file s 50 53) (octet file s 49) (end-is-later h e interval)
 
--- Where a section 4 is refused, the refusal stands at it.
-abbrev StandsAt : ℕ → Defined → Type 0
-StandsAt s (Defined.As d) = One {0}
-StandsAt s (Defined.Refused r) = r .place .0 ≡ s
+-- A section 4 is refused by one refusal alone, which stands at it.
+abbrev RefusedAt : ℕ → Defined → Type 0
+RefusedAt s (Defined.As d) = One {0}
+RefusedAt s (Defined.Refused r) = r ≡ refusal Why.BadProduct s
 
 module _ (file : List ℕ) (s : ℕ) where
-  parts-stand : (valid : Time) (l : LevelReading) (p : ProductReading) → StandsAt s (definedBy file s valid l p)
+  parts-stand : (valid : Time) (l : LevelReading) (p : ProductReading) → RefusedAt s (definedBy file s valid l p)
   parts-stand valid (LevelReading.Is level) (ProductReading.Is product) = tt
   parts-stand valid (LevelReading.Is level) ProductReading.Bad = refl
   parts-stand valid LevelReading.Bad p = refl
 
-  moment-stands : (m : Moment) → StandsAt s (definedAt file s m)
+  moment-stands : (m : Moment) → RefusedAt s (definedAt file s m)
   moment-stands (Moment.At valid) = parts-stand valid (levelAt file s) (productAt file s valid)
   moment-stands Moment.Never = refl
 
-  pub refused-place : (reference : Time) {r : Refusal} → productDefinitionAt file s reference ≡ Defined.Refused r → r .place .0 ≡ s
+  pub refused-is : (reference : Time) {r : Refusal} → productDefinitionAt file s reference ≡ Defined.Refused r → r ≡ refusal Why.BadProduct s
   unfolding productDefinitionAt
-  refused-place reference said = subst (StandsAt s) said (chosen (StandsAt s) (isProduct file s) (definedAt file s (validMoment file s reference)) (refused s) (moment-stands (validMoment file s reference)) refl)
+  refused-is reference said = subst (RefusedAt s) said (chosen (RefusedAt s) (isProduct file s) (definedAt file s (validMoment file s reference)) (refused s) (moment-stands (validMoment file s reference)) refl)

@@ -11,6 +11,8 @@ use lib.Ieee.Scale.{finite}
 use Rattle.octets.proofs.Cases.{split, both, chosen}
 use Rattle.sections.specs.Sections.{held}
 use Rattle.refusals.specs.declared.Refusal.{Refusal}
+use Rattle.refusals.specs.declared.Why.the-variants as Why
+use Rattle.refusals.specs.Refusals.{refusal}
 use Rattle.representation.specs.declared.Grouping.{Grouping}
 use Rattle.representation.specs.declared.Template.{Template}
 use Rattle.representation.specs.declared.Template.the-variants as Template
@@ -107,15 +109,15 @@ module _ (file : List ℕ) (s : ℕ) where
       subst (λ (n : ℕ). Grouped g n) count
       (subst (λ (g : Grouping). Grouped g (held file s 6 9)) (groups .0) (grouped (groupingAt file s) (held file s 6 9) (groups .1)))
 
--- Where a section 5 is refused, the refusal stands at it.
-abbrev StandsAt : ℕ → Represented → Type 0
-StandsAt s (Represented.By r) = Unit {0}
-StandsAt s (Represented.Refused r) = r .place .0 ≡ s
+-- A section 5 is refused by one refusal alone, which stands at it.
+abbrev RefusedAt : ℕ → Represented → Type 0
+RefusedAt s (Represented.By r) = Unit {0}
+RefusedAt s (Represented.Refused r) = r ≡ refusal Why.BadRepresentation s
 
-reading-stands : (file : List ℕ) (s : ℕ) (reading : TemplateReading) → StandsAt s (representedBy file s reading)
-reading-stands file s (TemplateReading.Is t) = chosen (StandsAt s) (isScaled file s) (Represented.By (representationWith file s t)) (refused s) tt refl
+reading-stands : (file : List ℕ) (s : ℕ) (reading : TemplateReading) → RefusedAt s (representedBy file s reading)
+reading-stands file s (TemplateReading.Is t) = chosen (RefusedAt s) (isScaled file s) (Represented.By (representationWith file s t)) (refused s) tt refl
 reading-stands file s TemplateReading.Bad = refl
 
-pub refused-place : (file : List ℕ) (s : ℕ) {r : Refusal} → representationAt file s ≡ Represented.Refused r → r .place .0 ≡ s
+pub refused-is : (file : List ℕ) (s : ℕ) {r : Refusal} → representationAt file s ≡ Represented.Refused r → r ≡ refusal Why.BadRepresentation s
 unfolding representationAt
-refused-place file s said = subst (StandsAt s) said (reading-stands file s (templateAt file s))
+refused-is file s said = subst (RefusedAt s) said (reading-stands file s (templateAt file s))
