@@ -10,13 +10,41 @@ use lib.Dec.{ltb, eqb}
 use lib.ListN.{length, getD, length-append, List·getD-append, List·getD-eq-default}
 use lib.Seq.{getD-append-seam}
 use Rattle.octets.specs.declared.FilePlace.{FilePlace}
+use Rattle.octets.specs.Places.{at}
 use Rattle.octets.proofs.Cases.{split}
 use Rattle.refusals.specs.declared.Refusal.{Refusal}
+use Rattle.walk.specs.declared.Bitmap.{Bitmap}
+use Rattle.walk.specs.declared.Starts.{Starts}
 use Rattle.walk.specs.declared.Located.{Located}
 use Rattle.walk.specs.declared.Section.the-variants as Section
 use Rattle.walk.specs.declared.Walked.the-variants as Walked
-use Rattle.walk.specs.Walk.{Walking, sectionAt, located, walkFrom, sections, counted, nowhere, Progress, passed}
+use Rattle.walk.specs.Walk.{Walking, sectionAt, startsAfter, bitmapAfter, located, walkFrom, sections, counted, nowhere}
 use Rattle.walk.proofs.Laws.{next-within, walk-on, walk-end, walk-bad}
+
+-- The walk as the code carries it: the place that it has come to, the number of the section before that, how many fields are finished, the
+-- starts and the bitmap in force, and where the field lies that is looked for, once it is finished.
+pub record Progress : Type 0 where
+  pub at : FilePlace
+  pub after : ℕ
+  pub fields : ℕ
+  pub starts : Starts
+  pub bitmap : Bitmap
+  pub hit : Located
+
+-- The code's walk past a section numbered n that ends at q, in search of field k.
+abbrev pub passed : List ℕ → Progress → ℕ → ℕ → ℕ → Progress
+passed file w k n q =
+    record {
+      at = at q;
+      after = n;
+      fields = cond (eqb n 7) (w .fields + 1) (w .fields);
+      starts = startsAfter (w .starts) n (w .at .0);
+      bitmap = bitmapAfter file (w .bitmap) n (w .at .0) q;
+      hit =
+          cond (eqb n 7)
+          (cond (eqb (w .fields) k) (record { starts = startsAfter (w .starts) n (w .at .0); bitmap = bitmapAfter file (w .bitmap) n (w .at .0) q }) (w .hit))
+          (w .hit);
+    }
 
 -- The walk that the code's progress w stands for, with these fields finished.
 abbrev walking : Progress → List Located → Walking

@@ -4,7 +4,6 @@ use mathlib.Core.List.{List, [], _∷_, _++_}
 use mathlib.Core.Bool.{Bool, false, cond, _||_, _&&_}
 use lib.Dec.{ltb, leb, eqb}
 use lib.ListN.{length, getD}
-use Rattle.octets.specs.declared.FilePlace.{FilePlace}
 use Rattle.octets.specs.Places.{at, placeOf}
 use Rattle.octets.specs.Numbers.{octetAt}
 use Rattle.sections.specs.Sections.{lengthAt, kindAt}
@@ -121,28 +120,3 @@ sections file s e = walkFrom file e (record { place = s; after = 0; starts = noS
 abbrev pub counted : ℕ → Tiled → Walked
 counted k (finished fields) = Walked.Fields (length fields) (getD fields k nowhere)
 counted k (refused r) = Walked.Bad r
-
--- The walk as the code carries it: the place that it has come to, the number of the section before that, how many fields are finished, the
--- starts and the bitmap in force, and where the field lies that is looked for, once it is finished.
-pub record Progress : Type 0 where
-  pub at : FilePlace
-  pub after : ℕ
-  pub fields : ℕ
-  pub starts : Starts
-  pub bitmap : Bitmap
-  pub hit : Located
-
--- The code's walk past a section numbered n that ends at q, in search of field k.
-abbrev pub passed : List ℕ → Progress → ℕ → ℕ → ℕ → Progress
-passed file w k n q =
-    record {
-      at = at q;
-      after = n;
-      fields = cond (eqb n 7) (w .fields + 1) (w .fields);
-      starts = startsAfter (w .starts) n (w .at .0);
-      bitmap = bitmapAfter file (w .bitmap) n (w .at .0) q;
-      hit =
-          cond (eqb n 7)
-          (cond (eqb (w .fields) k) (record { starts = startsAfter (w .starts) n (w .at .0); bitmap = bitmapAfter file (w .bitmap) n (w .at .0) q }) (w .hit))
-          (w .hit);
-    }
