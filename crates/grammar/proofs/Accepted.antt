@@ -1,7 +1,6 @@
--- The theorem `accepted`: a file is taken, with so many messages and these fields, exactly when the grammar describes it so. From it follows
--- what the questions answer: `counts` for check, and `places` for find.
+-- The theorems `counts` and `places`: the questions check and find answer, of a file, what the grammar describes, and of no other file.
 use Prim.Native.Nat.{ℕ, _<_}
-use mathlib.Core.Path.{_≡_, refl, ap, subst, _∙_}
+use mathlib.Core.Path.{_≡_, refl, ap, _∙_}
 use mathlib.Core.List.{List}
 use mathlib.Core.Bool.{Bool, true, false, cond}
 use mathlib.Core.Logic.{_↔_}
@@ -22,10 +21,6 @@ use Rattle.grammar.proofs.Complete.{accepted-complete}
 use Rattle.grammar.proofs.Sound.{accepted-sound}
 
 module _ (file : List ℕ) where
-  -- A file is taken, with m messages and the fields fs, exactly when the grammar describes it so.
-  pub accepted : (m : ℕ) (fs : List Located) → (outcome file ≡ tiled m fs) ↔ Accepted file m fs
-  accepted m fs = (λ h. accepted-sound (subst (Whole file) h (whole file)), accepted-complete)
-
   -- The question check answers the counts of messages and fields of the tiling, where there is one.
   pub counts : (m n : ℕ) → (check file ≡ Checked.Counts m n) ↔ ((fs : List Located) × Accepted file m fs × (length fs ≡ n))
   counts m n = (by (outcome file) (whole file), λ h. ap checked (accepted-complete (h .1)) ∙ ap (Checked.Counts m) (h .2))

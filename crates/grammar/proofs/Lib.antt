@@ -6,4 +6,3 @@ pub mod Unique
 pub mod Refusals
 pub mod Moved
 pub mod Laid
-pub mod Example

@@ -1,10 +1,10 @@
--- The theorem `refusals`: a file is refused by the first fault in document 01's order, and by no other; `check-refuses` says so of the question
--- check, and `find-refuses` of the question find. `one-refusal` says that there is only one, `either` that each file is refused or accepted, and `never-both` that none is both.
+-- The theorems `check-refuses` and `find-refuses`: a file is refused by its first fault in document 01's order, and by no other, and so is field k of it, which else is
+-- refused only where there is no such field.
 use Prim.Native.Nat.{ℕ, _+_, _≤_}
 use mathlib.Core.Path.{_≡_, refl, ap, subst, _∙_}
 use mathlib.Core.List.{List, [], _++_}
 use mathlib.Core.Bool.{Bool, true, false, cond}
-use mathlib.Core.Logic.{_⊎_, inl, inr, _↔_}
+use mathlib.Core.Logic.{_↔_}
 use native.Mathlib.Omega.{arith}
 use borrow.Author.Tests.{le-ltb, ltb-false}
 use lib.Dec.{ltb}
@@ -103,25 +103,8 @@ module _ {file : List ℕ} where
   refused-sound (reading.empty h) = Refusals.Refused.empty h
   refused-sound (reading.read some few t) = met-refusal some few Refusals.Before.start t
 
-  pub one-refusal : {r r′ : Refusal} → Refused file r → Refused file r′ → r ≡ r′
-  one-refusal {r} {r′} d d′ =
-      let given : outcome file ≡ refused r = refused-complete d in
-      let given′ : outcome file ≡ refused r′ = refused-complete d′ in
-      cc
-
-  pub never-both : {r : Refusal} {m : ℕ} {fs : List Located} → Refused file r → Accepted file m fs → ⊥
-  never-both {r} {m} {fs} d a =
-      let given : outcome file ≡ refused r = refused-complete d in
-      let given′ : outcome file ≡ tiled m fs = accepted-complete a in
-      let z : _≡_ {A = ℕ} 0 1 = cc in
-      omega arith
-
 module _ (file : List ℕ) where
-  -- A file is refused by r exactly when r is the first fault in document 01's order.
-  pub refusals : (r : Refusal) → (outcome file ≡ refused r) ↔ Refused file r
-  refusals r = (λ h. refused-sound (subst (Whole file) h (whole file)), refused-complete)
-
-  -- And so the question check refuses it.
+  -- The question check refuses a file by r exactly where r is its first fault.
   pub check-refuses : (r : Refusal) → (check file ≡ Checked.Refused r) ↔ Refused file r
   check-refuses r = (by (outcome file) (whole file), λ d. ap checked (refused-complete d))
     where
@@ -144,10 +127,3 @@ module _ (file : List ℕ) where
       given : {r : Refusal} → NotFound file k r → find file k ≡ Found.Refused r
       given (Refusals.NotFound.in-file d) = ap (found k) (refused-complete d)
       given (Refusals.NotFound.no-such-field {fs} a few) = ap (found k) (accepted-complete a) ∙ rw (le-ltb k (length fs) few)
-
-  pub either : ((r : Refusal) × Refused file r) ⊎ ((m : ℕ) × (fs : List Located) × Accepted file m fs)
-  either = by (outcome file) (whole file)
-    where
-      by : (o : Outcome) → Whole file o → ((r : Refusal) × Refused file r) ⊎ ((m : ℕ) × (fs : List Located) × Accepted file m fs)
-      by (refused r) w = inl (r, refused-sound w)
-      by (tiled m fs) w = inr (m, fs, accepted-sound w)
