@@ -1,5 +1,5 @@
 -- Demand 3, and the laws that its proof rests on.
-pub mod Demand3
+pub mod Meets
 pub mod Whole
 pub mod Distance
 pub mod Sum

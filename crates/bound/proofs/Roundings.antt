@@ -13,17 +13,11 @@ use lib.Ieee.Exact.{HasValue}
 use lib.Ieee.Scale.{round-same, grid, overflow, finite, normal-of-fraction}
 use Rattle.octets.specs.Numbers.{wholeOf}
 use Rattle.doubles.specs.Doubles.{powerOfTen, scaledBy}
-use Rattle.bound.specs.Bound.{writtenV, Near, nearest, roundedTwice}
+use Rattle.bound.specs.Bound.{writtenV, Near, Meets, nearest, roundedTwice}
 use Rattle.bound.proofs.Whole.{times-is}
 use Rattle.bound.proofs.Distance.{whole-times, size-of-whole, distance}
 use Rattle.bound.proofs.Scaled.{ten-pos, ten-le, above, under, scaled-is}
 use Rattle.bound.proofs.Error.{Close, rounding-close, rounding-value, under-double, over-half, close-times, close-cancel, twice-close}
-
--- What is asked of a double v, for the D of that sign and size and an S.
-pub record Meets (below : Bool) (d : ℕ) (v : Float) (s : ℤ) : Type 0 where
-  pub isFinite : T (finite v)
-  pub isNear : Near 51 below d (writtenV v) s
-  pub isRoundedTwice : v ≡ roundedTwice below d s
 
 -- The first rounding, of n / 2^149 for an n from 1 to 2^308, in units of 2^-1074.
 abbrev first : ℕ → ℕ
@@ -121,7 +115,11 @@ nearest-is false n c positive = refl
 nearest-is true zero c positive = absurd (lt-irrefl 0 positive)
 nearest-is true (suc n) c positive = refl
 
-nonzero-meets : (below : Bool) (d : ℕ) (s : Bool) (n : ℕ) → d ≤ 22 → 0 < n → n < 2 ^ 308 → Meets below d (scaledBy below (powerOfTen d) (nearest (wholeOf s n) (2 ^ 149))) (wholeOf s n)
+-- A whole number of a size that is not zero is not zero.
+not-zero : (s : Bool) (n : ℕ) → 0 < n → wholeOf s n ≡ pos 0 → ⊥
+not-zero s n positive none = let nought : n ≡ 0 = sym (size-of-whole s n) ∙ ap natAbs none in omega arith
+
+nonzero-meets : (below : Bool) (d : ℕ) (s : Bool) (n : ℕ) → d ≤ 22 → 0 < n → n < 2 ^ 308 → Meets below d (wholeOf s n) (scaledBy below (powerOfTen d) (nearest (wholeOf s n) (2 ^ 149)))
 nonzero-meets below d s n limit positive small =
     let g = first n in
     let sum = round binary64 s n (2 ^ 149) in
@@ -132,10 +130,11 @@ nonzero-meets below d s n limit positive small =
     ap (λ (v : Float). scaledBy below (powerOfTen d) v) (nearest-is s n (2 ^ 149) positive) ∙ scaled-is below d sum s g (2 ^ 1074) (pow-pos 1074) sum-value in
     let written : writtenV (nearest (wholeOf s n) (2 ^ 149)) ≡ wholeOf s g =
     ap writtenV (nearest-is s n (2 ^ 149) positive) ∙ times-is binary64 sum s g (round-fits binary64 s n (2 ^ 149)) sum-value in
-    subst (λ (v : Float). Meets below d v (wholeOf s n)) (sym opened)
+    subst (Meets below d (wholeOf s n)) (sym opened)
     (record {
       isFinite = finite-of value s (second below d n) (2 ^ 1074) last;
       isNear = subst (λ (z : ℤ). Near 51 below d z (wholeOf s n)) (sym (times-is binary64 value s (second below d n) (round-fits binary64 s (above below d g) (under below d (2 ^ 1074))) last)) (second-near below s n d positive limit);
+      isZero = λ none. absurd (not-zero s n positive none);
       isRoundedTwice = sym (twice below written);
     })
   where
@@ -165,8 +164,8 @@ zero-scaled below d = ap (λ (v : Float). scaledBy below (powerOfTen d) v) (near
     go false = nearest-zero (1 * 10 ^ d) (mul-pos (zero-lt-suc 0) (ten-pos d))
     go true = ap (λ (z : ℕ). round binary64 false z 1) (zero-mul (10 ^ d)) ∙ nearest-zero 1 (zero-lt-suc 0)
 
-zero-meets : (below : Bool) (d : ℕ) → Meets below d +0 (pos 0)
-zero-meets below d = record { isFinite = tt; isNear = near below; isRoundedTwice = sym (twice below) }
+zero-meets : (below : Bool) (d : ℕ) → Meets below d (pos 0) +0
+zero-meets below d = record { isFinite = tt; isNear = near below; isZero = λ _. refl; isRoundedTwice = sym (twice below) }
   where
     nought : (k l m : ℕ) → 2 ^ 51 * (0 * k - 0 * l) ≤ m
     nought k l m = omega arith
@@ -183,7 +182,7 @@ zero-meets below d = record { isFinite = tt; isNear = near below; isRoundedTwice
         ∙ nearest-zero (2 ^ 1074) (pow-pos 1074)
 
 -- All of it, of an S below 2^308 in size.
-pub roundings-meet : (below : Bool) (d : ℕ) (s : ℤ) → d ≤ 22 → natAbs s < 2 ^ 308 → Meets below d (scaledBy below (powerOfTen d) (nearest s (2 ^ 149))) s
-roundings-meet below d (pos zero) limit small = subst (λ (v : Float). Meets below d v (pos 0)) (sym (zero-scaled below d)) (zero-meets below d)
+pub roundings-meet : (below : Bool) (d : ℕ) (s : ℤ) → d ≤ 22 → natAbs s < 2 ^ 308 → Meets below d s (scaledBy below (powerOfTen d) (nearest s (2 ^ 149)))
+roundings-meet below d (pos zero) limit small = subst (Meets below d (pos 0)) (sym (zero-scaled below d)) (zero-meets below d)
 roundings-meet below d (pos (suc n)) limit small = nonzero-meets below d false (suc n) limit (zero-lt-suc n) small
 roundings-meet below d (negsuc n) limit small = nonzero-meets below d true (suc n) limit (zero-lt-suc n) small

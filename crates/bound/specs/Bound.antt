@@ -8,7 +8,6 @@ use lib.Ieee.{Float, nan, inf, fin, binary32, binary64, round, ofBits}
 use lib.Ieee.Scale.{finite}
 use Rattle.octets.specs.declared.Signed.{Signed}
 use Rattle.octets.specs.Numbers.{whole, wholeOf}
-use Rattle.doubles.specs.Doubles.{valueOf}
 
 -- l + e, for an exponent e from -l up.
 abbrev pub raised : ℕ → ℤ → ℕ
@@ -45,12 +44,13 @@ abbrev pub roundedTwice : Bool → ℕ → ℤ → Float
 roundedTwice false d s = nearest (writtenV (nearest s (2 ^ 149))) (2 ^ 1074 * 10 ^ d)
 roundedTwice true d s = nearest (writtenV (nearest s (2 ^ 149)) *ℤ pos (10 ^ d)) (2 ^ 1074)
 
--- What is proved of the double of R, E, D and X.
-pub record Demand3 (r : ℕ) (e d : Signed) (x : ℕ) : Type 0 where
-  pub isFinite : T (finite (valueOf r e d x))
-  pub isNear : Near 51 (d .negative) (d .size) (writtenV (valueOf r e d x)) (exactS r e x)
-  pub isZero : exactS r e x ≡ pos 0 → valueOf r e d x ≡ fin false 0 (pos 0)
-  pub isRoundedTwice : valueOf r e d x ≡ roundedTwice (d .negative) (d .size) (exactS r e x)
+-- What is asked of the double v, for the D of this sign and size and for S: it is finite, and near to the exact fraction; where that is zero, zero is
+-- written; and it is the double that the two roundings give.
+pub record Meets (below : Bool) (d : ℕ) (s : ℤ) (v : Float) : Type 0 where
+  pub isFinite : T (finite v)
+  pub isNear : Near 51 below d (writtenV v) s
+  pub isZero : s ≡ pos 0 → v ≡ fin false 0 (pos 0)
+  pub isRoundedTwice : v ≡ roundedTwice below d s
 
 -- R, E, D and X within the limits past which a field is refused.
 pub record InLimits (r : ℕ) (e d : Signed) (x : ℕ) : Type 0 where

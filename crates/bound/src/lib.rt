@@ -1,1 +1,1 @@
-// Theorems alone: see specs/Bound.antt for what is said, and proofs/Demand3.antt for its proof.
+// Theorems alone: see specs/Bound.antt for what is said, and proofs/Meets.antt for its proof.

@@ -6,7 +6,7 @@ use lib.Ieee.{Float}
 use lib.Ieee.Scale.{finite}
 use borrow.Author.Needs.{needs}
 use Rattle.doubles.proofs.Answers.{finite-number}
-use Rattle.bound.proofs.Demand3.{answered-meets}
+use Rattle.bound.proofs.Meets.{answered-meets}
 use Rattle.ask.proofs.rebuild.Statement.{statement}
 use Rattle.ask.proofs.rebuild.Tie as tie
 

@@ -1,6 +1,6 @@
--- Demand 3: every double that is rebuilt within the limits is finite, is near to the exact fraction, and is the one that two roundings give;
+-- Demand 3 of one double: every one that is rebuilt within the limits is finite, is near to the exact fraction, and is the one that two roundings give;
 -- the whole numbers that say so lose nothing; and the bound 2^51 cannot be made 2^53.
-use mathlib.Core.Path.{_≡_, sym, ap, _∙_, subst}
+use mathlib.Core.Path.{_≡_, sym, subst}
 use Prim.Native.Nat.{ℕ, zero, suc, _*_, _^_, _≤_, zero-le}
 use native.Mathlib.Nat.{not-le-of-lt}
 use native.Mathlib.Omega.{arith}
@@ -14,26 +14,17 @@ use Rattle.octets.specs.declared.Signed.{Signed}
 use Rattle.octets.specs.Numbers.{whole, wholeOf}
 use Rattle.doubles.specs.declared.Rebuilt.the-variants.{Double, Refused}
 use Rattle.doubles.specs.Doubles.{powerOfTwo, powerOfTen, scaledBy, sumOf, valueOf, isPacked, isRebuildable, notRebuildable, answerOf}
-use Rattle.bound.specs.Bound.{raised, exactS, writtenV, Near, nearest, Demand3, InLimits}
+use Rattle.bound.specs.Bound.{raised, exactS, writtenV, Near, Meets, InLimits}
 use Rattle.bound.proofs.Whole.{held, raised-is, whole-from}
 use Rattle.bound.proofs.Sum.{power-on-grid, sum-is-nearest, exact-is-small}
-use Rattle.bound.proofs.Roundings.{Meets, roundings-meet, zero-scaled}
+use Rattle.bound.proofs.Roundings.{roundings-meet}
 
--- The demand itself, for all R, E, D and X within the limits.
-pub demand-3 : (r : ℕ) (e d : Signed) (x : ℕ) → InLimits r e d x → Demand3 r e d x
+-- Demand 3 of one double, for all R, E, D and X within the limits.
+pub rebuilt-meets : (r : ℕ) (e d : Signed) (x : ℕ) → InLimits r e d x → Meets (d .negative) (d .size) (exactS r e x) (valueOf r e d x)
 unfolding valueOf
-demand-3 r e d x limits =
-    let scaled : Float → Float = λ v. scaledBy (d .negative) (powerOfTen (d .size)) v in
-    let sum = sum-is-nearest r e d x limits in
-    let meets : Meets (d .negative) (d .size) (valueOf r e d x) (exactS r e x) =
-    subst (λ (v : Float). Meets (d .negative) (d .size) (scaled v) (exactS r e x)) (sym sum)
-    (roundings-meet (d .negative) (d .size) (exactS r e x) (limits .decimal) (exact-is-small r e d x limits)) in
-    record {
-      isFinite = meets .isFinite;
-      isNear = meets .isNear;
-      isZero = λ is-zero. ap scaled (sum ∙ ap (λ (s : ℤ). nearest s (2 ^ 149)) is-zero) ∙ zero-scaled (d .negative) (d .size);
-      isRoundedTwice = meets .isRoundedTwice;
-    }
+rebuilt-meets r e d x limits =
+    subst (λ (v : Float). Meets (d .negative) (d .size) (exactS r e x) (scaledBy (d .negative) (powerOfTen (d .size)) v)) (sym (sum-is-nearest r e d x limits))
+    (roundings-meet (d .negative) (d .size) (exactS r e x) (limits .decimal) (exact-is-small r e d x limits))
 
 -- The question that rebuilds one double answers with a double only within the limits, so demand 3 holds of every double that it gives.
 pub answered-in-limits : (r : ℕ) (e d x : Signed) → T (isRebuildable r e d x) → InLimits r e d (x .size)
@@ -56,11 +47,11 @@ answered-in-limits r e d x t =
     size-packed true zero t = zero-le
     size-packed true (suc size) t = absurd t
 
-pub answered-meets : (r : ℕ) (e d x : Signed) (v : Float) → answerOf r e d x ≡ Double v → (v ≡ valueOf r e d (x .size)) × Demand3 r e d (x .size)
+pub answered-meets : (r : ℕ) (e d x : Signed) (v : Float) → answerOf r e d x ≡ Double v → (v ≡ valueOf r e d (x .size)) × Meets (d .negative) (d .size) (exactS r e (x .size)) (valueOf r e d (x .size))
 answered-meets r e d x v answer = go (isRebuildable r e d x) (answered-in-limits r e d x) answer
   where
-    go : (b : Bool) → (T b → InLimits r e d (x .size)) → cond b (Double (valueOf r e d (x .size))) (Refused notRebuildable) ≡ Double v → (v ≡ valueOf r e d (x .size)) × Demand3 r e d (x .size)
-    go true limits given = (cc, demand-3 r e d (x .size) (limits tt))
+    go : (b : Bool) → (T b → InLimits r e d (x .size)) → cond b (Double (valueOf r e d (x .size))) (Refused notRebuildable) ≡ Double v → (v ≡ valueOf r e d (x .size)) × Meets (d .negative) (d .size) (exactS r e (x .size)) (valueOf r e d (x .size))
+    go true limits given = (cc, rebuilt-meets r e d (x .size) (limits tt))
     go false limits given = let impossible : _≡_ {A = ℕ} 0 1 = cc in absurd (omega arith)
 
 -- A single m x 2^e is m x 2 ^ raised 149 e over 2^149, and 2^E is 2 ^ raised 149 E over 2^149, so that S is exactly 2^149 (R + X x 2^E).
