@@ -1,2 +1,3 @@
 -- The laws of bits that other proofs cite.
 pub mod Laws
+pub mod Pairs

@@ -1,2 +1,3 @@
--- What the numbers in a run of bits are.
+-- What the numbers in a run of bits are, and how many of them are read two at a time.
 pub mod Bits
+pub mod Pairs

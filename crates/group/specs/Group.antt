@@ -1,5 +1,5 @@
 -- How the code works out the integers X of one group: in numbers without a sign, and only while each is in its range.
-use Prim.Native.Nat.{ℕ, zero, suc, _+_, _-_, _*_, _/_, _≤_}
+use Prim.Native.Nat.{ℕ, zero, suc, _+_, _-_, _*_, _≤_}
 use mathlib.Core.Bool.{Bool, true, false, cond}
 use mathlib.Core.List.{List}
 use lib.Dec.{ltb}
@@ -55,11 +55,3 @@ pub record Limits (g : declared.Group) (x before : ℕ) : Type 0 where
 -- What is left of a group behind its first numbers.
 abbrev pub behind : declared.Group → ℕ → declared.Group
 behind g done = record { from = record { 0 = g .from .0 + done * g .width }; width = g .width; base = g .base; lowered = g .lowered; count = g .count - done }
-
--- So many pairs of a group's numbers can be read two at a time from a section of such a length: they are the group's, two numbers fit a window of 64
--- bits wherever in an octet they start, and the section goes on for eight octets behind each. Fewer pairs would do as well: how many there are is a
--- matter of speed alone.
-pub record Paired (octets : ℕ) (g : declared.Group) (pairs : ℕ) : Type 0 where
-  pub few : 2 * pairs ≤ g .count
-  pub narrow : 1 ≤ pairs → g .width ≤ 28
-  pub inside : 1 ≤ pairs → (g .from .0 + 2 * pairs * g .width) / 8 + 8 ≤ octets

@@ -7,7 +7,7 @@ ghost use Rattle.bits.specs.Bits.{bitAt};
 ghost use Rattle.presence.specs.Presence.{onesBefore};
 ghost use Rattle.points.specs.Written.{Written};
 ghost use Rattle.group.specs.declared.Worked.the-variants as Worked;
-ghost use Rattle.group.specs.Group.{Limits, Paired, behind, isKept, workedBy, integerBy};
+ghost use Rattle.group.specs.Group.{Limits, behind, isKept, workedBy, integerBy};
 use doubles::Packing;
 use octets::BitPlace;
 
@@ -32,21 +32,6 @@ pub struct Reached {
     pub x: u64,
     pub before: u64,
     pub point: usize,
-}
-
-// How many pairs of the group's numbers can be read two at a time: all, where the section goes on for eight octets behind them, unless a number
-// has more bits than half a window.
-fn pairs_of(section: &[u8], group: Group) -> u64
-    requires { ⌜ (group .from .0 ≤ 1099511627776) × (group .width ≤ 31) × (group .count ≤ 4294967296) ⌝ }
-    ensures { λ r. ⌜ Paired (length (now (section .entry))) group r ⌝ }
-{
-    if group.width > 28 {
-        return 0;
-    }
-    if (group.from.0 + group.count as usize * group.width as usize) / 8 + 8 <= section.len() {
-        return group.count / 2;
-    }
-    0
 }
 
 // What is left of the group behind its first `done` numbers.
@@ -137,7 +122,7 @@ pub fn judge(section: &[u8], group: Group, latest: u64, earlier: u64) -> Worked
     requires { ⌜ Limits group latest earlier ⌝ }
     ensures { λ r. ⌜ r ≡ workedBy (now (section .entry)) group (Worked.Kept latest earlier) (group .count) ⌝ }
 {
-    let pairs = pairs_of(section, group);
+    let pairs = bits::pairs_in(section.len(), group.from, group.width, group.count as usize) as u64;
     if pairs == 0 {
         return judge_each(section, group, latest, earlier);
     }
@@ -252,7 +237,7 @@ pub fn fill_all(
     ensures { λ r. ⌜ workedBy (now (section .entry)) group (Worked.Kept (reached .x) (reached .before)) (group .count) ≡ Worked.Kept (r .x) (r .before) ⌝ }
     ensures { λ r. ⌜ Written (λ _. 1) (λ i. i) packing (integerBy (now (section .entry)) group (reached .x) (reached .before)) (group .count) (reached .point) (r .point) (now (values .entry)) (now (values .exit)) (now (presence .entry)) (now (presence .exit)) ⌝ }
 {
-    let pairs = pairs_of(section, group);
+    let pairs = bits::pairs_in(section.len(), group.from, group.width, group.count as usize) as u64;
     if pairs == 0 {
         return fill_each(section, group, packing, values, presence, reached);
     }
