@@ -14,7 +14,7 @@ use Rattle.doubles.specs.declared.Packing.{Packing}
 use Rattle.doubles.specs.Doubles.{rebuilt}
 use Rattle.points.specs.Points.{doubleAt}
 use Rattle.points.specs.Written.{Written}
-use Rattle.points.proofs.Laws.{written-none, written-present}
+use Rattle.points.proofs.Laws.{written-past, written-none, written-present}
 use Rattle.group.specs.declared.Reached.{Reached}
 use Rattle.integers.specs.Integers.{areInRange}
 use Rattle.complex.specs.declared.Groups.{Groups}
@@ -28,7 +28,7 @@ one-more : (p : Packing) (x point : ℕ) (values : List Float) (presence : List 
     Written (λ _. 1) (λ i. i) p (λ _. x) 1 point (point + 1) values (set values point double) presence (set presence point 1)
 one-more p x point values presence {double} h same =
     rw same
-    (written-present (λ _. 1) (λ i. i) (λ i. refl) p (λ _. x) (written-none (λ _. 1) (λ i. i) (λ i. refl) p (λ _. x) point values presence (omega arith)) h {y = x} refl refl)
+    (written-present (λ _. 1) (λ i. i) (λ i. refl) p (λ _. x) (written-past (written-none (λ _. 1) (λ i. i) (λ i. refl) p (λ _. x) point values presence (omega arith))) h {y = x} refl refl)
 
 -- All points before the one that is reached are present and written.
 abbrev pub PassedAll : List ℕ → Groups → Packing → List Float → List ℕ → ℕ → Reached → Start → List Float → List ℕ → Type 0

@@ -17,7 +17,7 @@ use Rattle.group.specs.declared.Reached.{Reached}
 use Rattle.group.specs.declared.Worked.the-variants as Worked
 use Rattle.group.specs.Group.{workedBy, isKept, integerBy}
 use Rattle.points.specs.Written.{Written}
-use Rattle.points.proofs.Laws.{written-field}
+use Rattle.points.proofs.Laws.{written-past, written-field}
 use Rattle.integers.specs.Integers.{integer, areInRange}
 use Rattle.complex.specs.declared.Groups.{Groups}
 use Rattle.complex.specs.declared.Start.{Start}
@@ -65,7 +65,7 @@ module _ (run : List ℕ) (g : Groups) where
             inside = omega (arith, w .within);
             doubles =
                 filled-further (doubleAt p (sizeIn run g) mark rank) values written after (w .onward) (s .doubles)
-                (written-field mark rank more p (integerBy run (groupAt run g i) (reached .x) (reached .before)) (sizeIn run g) w (λ k l. group-field run g sound all i (reached .x) (reached .before) h (s .kept) k l ∙ ap (λ (n : ℕ). sizeIn run g (n + k)) (sym (s .used))));
+                (written-field mark rank more p (integerBy run (groupAt run g i) (reached .x) (reached .before)) (sizeIn run g) (written-past w) (λ k l. group-field run g sound all i (reached .x) (reached .before) h (s .kept) k l ∙ ap (λ (n : ℕ). sizeIn run g (n + k)) (sym (s .used))));
             marks = filled-further mark presence marked marked' (w .onward) (s .marks) (w .marks);
           }
 
@@ -85,9 +85,9 @@ module _ (run : List ℕ) (g : Groups) where
     passed-none {mark} {rank} {p} {values} {written} {after} {presence} {marked} {marked'} {second} {point} more none one two =
         let double : ℕ → Float = doubleAt p (sizeIn run g) mark rank in
         let first : written ≡ filled double 0 second values =
-        rw (sub-zero second) at (written-field mark rank more p (λ _. g .differencing .first) (sizeIn run g) one (λ k l. let only : rank 0 + k ≡ 0 = omega arith in ap (sizeIn run g) (sym only))) in
+        rw (sub-zero second) at (written-field mark rank more p (λ _. g .differencing .first) (sizeIn run g) (written-past one) (λ k l. let only : rank 0 + k ≡ 0 = omega arith in ap (sizeIn run g) (sym only))) in
         let then : after ≡ filled double second (point - second) written =
-        written-field mark rank more p (λ _. g .differencing .second) (sizeIn run g) two (λ k l. let next : rank second + k ≡ 1 = omega (arith, one .used) in ap (sizeIn run g) (sym next)) in
+        written-field mark rank more p (λ _. g .differencing .second) (sizeIn run g) (written-past two) (λ k l. let next : rank second + k ≡ 1 = omega (arith, one .used) in ap (sizeIn run g) (sym next)) in
         let same : length written ≡ length values = ap length first ∙ filled-length double 0 second values in
         record {
           within = omega arith;

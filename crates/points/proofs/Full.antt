@@ -13,7 +13,8 @@ use Rattle.octets.specs.Numbers.{numberAt}
 use Rattle.octets.proofs.Cases.{split, both}
 use Rattle.bits.specs.Bits.{bitAt, bitsAt}
 use Rattle.bits.proofs.Laws.{bit-lt, bits-of-octets}
-use Rattle.points.specs.Written.{isFull}
+use Rattle.points.specs.Written.{isFull, Until}
+use Rattle.points.proofs.Laws.{neither-less}
 
 -- The points from `from` up to `next` are present.
 abbrev pub Present : List ℕ → ℕ → ℕ → Type 0
@@ -26,6 +27,12 @@ present-further bitmap from next after first second i l m = split (ltb i next) (
 -- One present point.
 pub present-one : (bitmap : List ℕ) (point : ℕ) → bitAt bitmap point ≡ 1 → Present bitmap point (point + 1)
 present-one bitmap point e i l m = let same : i ≡ point = omega arith in ap (bitAt bitmap) same ∙ e
+
+-- Any two ends of the points present are the same: where one stops before the end a point is missing, which the other has not passed.
+pub until-determined : {bitmap : List ℕ} {from end next next' : ℕ} → Until bitmap from end next → Until bitmap from end next' → next ≡ next'
+until-determined {bitmap} {from} {end} {next} {next'} u v =
+    neither-less next next' (λ less. omega (arith, v .present next (u .onward) less, u .missing (omega (arith, v .within))))
+    (λ less. omega (arith, u .present next' (v .onward) less, v .missing (omega (arith, u .within))))
 
 -- Where the number of n bits is the greatest there is, each of them is 1.
 pub all-set : (run : List ℕ) (at n : ℕ) → bitsAt run at n ≡ 2 ^ n - 1 → (i : ℕ) → i < n → bitAt run (at + i) ≡ 1

@@ -1,4 +1,4 @@
--- Points that are missing: how they are cleared, one by one, and that to clear them is to write no integer.
+-- Points that are missing: how they are cleared, one by one, and that to clear them is to write no integer. What is cleared leaves nothing open.
 use mathlib.Core.Path.{_≡_, refl, sym, ap, _∙_}
 use mathlib.Core.Bool.{false}
 use mathlib.Core.List.{List}
@@ -18,8 +18,8 @@ use Rattle.doubles.specs.declared.Packing.{Packing}
 use Rattle.points.specs.Points.{pointValue, doubleAt}
 use Rattle.presence.specs.Presence.{onesBefore}
 use Rattle.presence.proofs.Laws.{ones-more}
-use Rattle.points.specs.Written.{Written, Cleared}
-use Rattle.points.proofs.Laws.{written-field}
+use Rattle.points.specs.Written.{Cleared}
+use Rattle.points.proofs.Laws.{neither-less, WrittenPast, written-field}
 
 -- The literal 0.0 is +0.
 pub zero-literal : ofBits binary64 0 ≡ fin false 0 (pos 0)
@@ -70,6 +70,19 @@ module _ (bitmap : List ℕ) (point : ℕ) (values : List Float) (presence : Lis
     missing-cleared present =
         record { onward = m .onward; within = m .within; missing = m .missing; present = present; doubles = m .doubles; marks = m .marks }
 
+-- Any two outcomes of clearing are the same: where one stops before the end a point is present, which the other has not passed.
+pub cleared-determined : {bitmap : List ℕ} {point next next' : ℕ} {values written written' : List Float} {presence marked marked' : List ℕ} →
+    Cleared bitmap point next values written presence marked → Cleared bitmap point next' values written' presence marked' →
+    (next ≡ next') × (written ≡ written') × (marked ≡ marked')
+cleared-determined {bitmap} {point} {next} {next'} {values} {written} {written'} {presence} {marked} {marked'} c d =
+    let same : next ≡ next' =
+    neither-less next next' (λ less. omega (arith, d .missing next (c .onward) less, c .present (omega (arith, d .within))))
+    (λ less. omega (arith, c .missing next' (d .onward) less, d .present (omega (arith, c .within)))) in (
+      same,
+      c .doubles ∙ ap (λ (n : ℕ). filled (λ _. fin false 0 (pos 0)) point (n - point) values) same ∙ sym (d .doubles),
+      c .marks ∙ ap (λ (n : ℕ). filled (λ _. 0) point (n - point) presence) same ∙ sym (d .marks),
+    )
+
 -- Missing points add nothing to the count of those present.
 ones-missing : (bitmap : List ℕ) (point n : ℕ) → ((i : ℕ) → point ≤ i → i < point + n → bitAt bitmap i ≡ 0) → onesBefore bitmap (point + n) ≡ onesBefore bitmap point
 ones-missing bitmap point zero h = ap (onesBefore bitmap) (add-zero point)
@@ -80,9 +93,9 @@ ones-missing bitmap point (suc n) h =
     ∙ omega (arith, ones-missing bitmap point n (λ i l m. h i l (omega arith)), h (point + n) (omega arith) (omega arith))
 
 -- To clear missing points is to write no integer.
-pub cleared-written : {bitmap : List ℕ} (p : Packing) (x : ℕ → ℕ) {point next : ℕ} {values written : List Float} {presence marked : List ℕ} → Cleared bitmap point next values written presence marked →
-    Written (bitAt bitmap) (onesBefore bitmap) p x 0 point next values written presence marked
-cleared-written {bitmap} p x {point} {next} {values} {written} {presence} {marked} c =
+pub cleared-past : {bitmap : List ℕ} (p : Packing) (x : ℕ → ℕ) {point next : ℕ} {values written : List Float} {presence marked : List ℕ} → Cleared bitmap point next values written presence marked →
+    WrittenPast (bitAt bitmap) (onesBefore bitmap) p x 0 point next values written presence marked
+cleared-past {bitmap} p x {point} {next} {values} {written} {presence} {marked} c =
     record {
       onward = c .onward;
       within = c .within;
@@ -106,7 +119,7 @@ pub cleared-filled : {bitmap : List ℕ} (p : Packing) (x : ℕ → ℕ) (values
     written ≡ filled (doubleAt p x (bitAt bitmap) (onesBefore bitmap)) 0 point values → marked ≡ filled (bitAt bitmap) 0 point presence →
     (after ≡ filled (doubleAt p x (bitAt bitmap) (onesBefore bitmap)) 0 next values) × (marked' ≡ filled (bitAt bitmap) 0 next presence)
 cleared-filled {bitmap} p x values presence {point} {next} {written} {after} {marked} {marked'} c doubles marks =
-    let w = cleared-written p x c in
+    let w = cleared-past p x c in
     let double : ℕ → Float = doubleAt p x (bitAt bitmap) (onesBefore bitmap) in
     let field : after ≡ filled double point (next - point) written = written-field (bitAt bitmap) (onesBefore bitmap) (ones-more bitmap) p x x w (λ k none. absurd (omega arith)) in (
       filled-further double values written after (c .onward) doubles field,

@@ -10,7 +10,7 @@ use Rattle.doubles.specs.declared.Packing.{Packing}
 use Rattle.doubles.specs.Doubles.{rebuilt}
 use Rattle.points.specs.Points.{doubleAt}
 use Rattle.points.specs.Written.{Written}
-use Rattle.points.proofs.Laws.{written-none, written-present, written-then}
+use Rattle.points.proofs.Laws.{written-past, written-none, written-present, written-then}
 
 module _ (packing : Packing) (x : ℕ → ℕ) where
   -- The points from `from` up to `to` are all present, and have the integers x 0, x 1 and so on.
@@ -28,7 +28,7 @@ module _ (packing : Packing) (x : ℕ → ℕ) where
       i < length values → y ≡ x (i - from) → double ≡ rebuilt packing y → WrittenAll from (i + 1) values (set written i double) presence (set marked i 1)
   all-more {from} {i} {y} w h given same =
       let later : i + 1 - from ≡ i - from + 1 = omega (arith, w .onward) in
-      rw (same, later) (written-present (λ _. 1) (λ i. i) (λ i. refl) packing x w h {y = y} refl given)
+      rw (same, later) (written-present (λ _. 1) (λ i. i) (λ i. refl) packing x (written-past w) h {y = y} refl given)
 
   -- What is written has the length of what was there.
   pub all-lengths : {from to : ℕ} {values written : List Float} {presence marked : List ℕ} → WrittenAll from to values written presence marked →

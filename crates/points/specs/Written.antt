@@ -19,6 +19,8 @@ pub record Written (mark rank : ℕ → ℕ) (p : Packing) (x : ℕ → ℕ) (co
   pub onward : point ≤ next
   pub within : next ≤ length values
   pub used : rank next ≡ rank point + count
+  -- and no shorter stretch would do
+  pub least : (i : ℕ) → point ≤ i → i < next → rank i < rank point + count
   pub doubles : written ≡ filled (doubleAt p x mark (λ i. rank i - rank point)) point (next - point) values
   pub marks : marked ≡ filled mark point (next - point) presence
 

@@ -1,11 +1,11 @@
--- The laws of numbers that lie one behind the other, and of how many of them are read in pairs.
+-- The laws of numbers that lie one behind the other.
 use mathlib.Core.Path.{_≡_, ap}
 use mathlib.Core.List.{List}
-use Prim.Native.Nat.{ℕ, _+_, _-_, _*_, _/_, _≤_}
-use native.Mathlib.Nat.{add-mul, one-mul, mul-le-mul-left, mul-le-mul-right}
+use Prim.Native.Nat.{ℕ, _+_, _-_, _*_, _≤_}
+use native.Mathlib.Nat.{add-mul, one-mul, mul-le-mul-left}
 use native.Mathlib.Omega.{arith}
 use Rattle.bits.specs.Bits.{bitsAt}
-use Rattle.simple.specs.Simple.{numbersFrom, Paired}
+use Rattle.simple.specs.Simple.{numbersFrom}
 
 -- The numbers behind the first k are those that start k numbers later.
 pub numbers-later : (run : List ℕ) (bits first at k : ℕ) → at ≡ first + k * bits → (j : ℕ) → numbersFrom run bits at j ≡ numbersFrom run bits first (k + j)
@@ -28,9 +28,3 @@ next-place first from i bits at h here = omega (arith, place-behind first (i - f
 -- So many numbers have few bits in all.
 pub bits-in-all : (count bits most : ℕ) → bits ≤ most → count * bits ≤ count * most
 bits-in-all count bits most h = mul-le-mul-left count h
-
--- Where the section goes on for eight octets behind all numbers, it does so behind half as many pairs.
-pub all-paired : (octets bits count first : ℕ) → bits ≤ 28 → (first + count * bits) / 8 + 8 ≤ octets → Paired octets bits count first (count / 2)
-all-paired octets bits count first narrow inside =
-    let few : 2 * (count / 2) ≤ count = omega arith in
-    record { few = few; narrow = λ _. narrow; inside = λ _. omega (arith, mul-le-mul-right bits few) }

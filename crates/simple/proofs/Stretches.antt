@@ -16,14 +16,14 @@ use Rattle.doubles.specs.declared.Packing.{Packing}
 use Rattle.presence.specs.Presence.{onesBefore}
 use Rattle.presence.proofs.Laws.{ones-more}
 use Rattle.points.specs.Points.{pointValue, doubleAt}
-use Rattle.points.specs.Written.{Written, Cleared, Until}
-use Rattle.points.proofs.Laws.{written-then, written-field}
-use Rattle.points.proofs.Missing.{cleared-written, cleared-further}
+use Rattle.points.specs.Written.{Cleared, Until}
+use Rattle.points.proofs.Laws.{WrittenPast, past-then, written-field}
+use Rattle.points.proofs.Missing.{cleared-past, cleared-further}
 use Rattle.points.proofs.Present.{WrittenAll}
 
 -- Where all points of a field are written, both runs are rows.
 pub written-rows : (mark rank : ℕ → ℕ) → ((i : ℕ) → rank (i + 1) ≡ rank i + mark i) → (packing : Packing) (x : ℕ → ℕ) → rank 0 ≡ 0 →
-    {count end : ℕ} {values written : List Float} {presence marked : List ℕ} → Written mark rank packing x count 0 end values written presence marked →
+    {count end : ℕ} {values written : List Float} {presence marked : List ℕ} → WrittenPast mark rank packing x count 0 end values written presence marked →
     end ≡ length values → end ≡ length presence → (written ≡ row (doubleAt packing x mark rank) (length values)) × (marked ≡ row mark (length values))
 written-rows mark rank step packing x none {count} {end} {values} {written} {presence} {marked} w whole same =
     let field : written ≡ filled (doubleAt packing x mark rank) 0 (end - 0) values = written-field mark rank step packing x x w (λ k _. ap x (omega (arith, none))) in (
@@ -43,7 +43,7 @@ ones-present bitmap from (suc n) h =
 -- A stretch that is written as all present is one written by a bitmap that has all of its points.
 pub all-marked : (bitmap : List ℕ) (packing : Packing) (x : ℕ → ℕ) {from to : ℕ} {values written : List Float} {presence marked : List ℕ} →
     WrittenAll packing x from to values written presence marked → ((i : ℕ) → from ≤ i → i < to → bitAt bitmap i ≡ 1) →
-    Written (bitAt bitmap) (onesBefore bitmap) packing x (to - from) from to values written presence marked
+    WrittenPast (bitAt bitmap) (onesBefore bitmap) packing x (to - from) from to values written presence marked
 all-marked bitmap packing x {from} {to} {values} {written} {presence} {marked} w present =
     record {
       onward = w .onward;
@@ -69,15 +69,15 @@ all-marked bitmap packing x {from} {to} {values} {written} {presence} {marked} w
 
 -- A turn over a field with a bitmap: behind the points that are written, a stretch of points that are present and one of points that are missing.
 pub marked-turn : (bitmap : List ℕ) (packing : Packing) (x y : ℕ → ℕ) {i until next : ℕ} {values written between after : List Float} {presence marked marked' marked'' : List ℕ} →
-    Written (bitAt bitmap) (onesBefore bitmap) packing x (onesBefore bitmap i) 0 i values written presence marked →
+    WrittenPast (bitAt bitmap) (onesBefore bitmap) packing x (onesBefore bitmap i) 0 i values written presence marked →
     WrittenAll packing y i until written between marked marked' → ((j : ℕ) → i ≤ j → j < until → bitAt bitmap j ≡ 1) → ((k : ℕ) → y k ≡ x (onesBefore bitmap i + k)) →
     Cleared bitmap until next between after marked' marked'' →
-    (onesBefore bitmap next ≡ onesBefore bitmap i + (until - i)) × Written (bitAt bitmap) (onesBefore bitmap) packing x (onesBefore bitmap next) 0 next values after presence marked''
+    (onesBefore bitmap next ≡ onesBefore bitmap i + (until - i)) × WrittenPast (bitAt bitmap) (onesBefore bitmap) packing x (onesBefore bitmap next) 0 next values after presence marked''
 marked-turn bitmap packing x y {i} {until} {next} w v present same cleared =
     let stretch = all-marked bitmap packing y v present in
-    let none = cleared-written packing x cleared in
-    let first = written-then (bitAt bitmap) (onesBefore bitmap) (ones-more bitmap) packing x y w stretch (λ k _. same k) in
-    let both = written-then (bitAt bitmap) (onesBefore bitmap) (ones-more bitmap) packing x x first none (λ k no. absurd (omega arith)) in
+    let none = cleared-past packing x cleared in
+    let first = past-then (bitAt bitmap) (onesBefore bitmap) (ones-more bitmap) packing x y w stretch (λ k _. same k) in
+    let both = past-then (bitAt bitmap) (onesBefore bitmap) (ones-more bitmap) packing x x first none (λ k no. absurd (omega arith)) in
     let count : onesBefore bitmap next ≡ onesBefore bitmap i + (until - i) + 0 = omega (arith, stretch .used, none .used) in
     (omega (arith, count), rw count both)
 

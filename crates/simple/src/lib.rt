@@ -8,7 +8,7 @@ ghost use Rattle.points.specs.Points.{doubleAt};
 ghost use Rattle.presence.specs.Presence.{onesBefore};
 ghost use Rattle.points.specs.Written.{Written};
 ghost use Rattle.integers.specs.Integers.{simpleInteger};
-ghost use Rattle.simple.specs.Simple.{numbersFrom, Paired};
+ghost use Rattle.simple.specs.Simple.{numbersFrom};
 use doubles::Packing;
 use octets::BitPlace;
 use octets::OctetNumber;
@@ -67,29 +67,6 @@ fn fill_pairs(
     }
 }
 
-// How many pairs of `count` numbers from bit `first` on can be read two at a time: those before the section's last eight octets, unless a number
-// has more bits than half a window.
-fn pairs_of(section: &[u8], bits: u32, count: usize, first: usize) -> usize
-    requires { ⌜ (count ≤ 16777216) × (first ≤ 1099511627776) ⌝ }
-    ensures { λ r. ⌜ Paired (length (now (section .entry))) bits count first r ⌝ }
-{
-    if bits > 28 {
-        return 0;
-    }
-    if (first + count * bits as usize) / 8 + 8 <= section.len() {
-        return count / 2;
-    }
-    // The last 64 numbers take at least eight octets, unless each takes no bit.
-    if count < 64 {
-        return 0;
-    }
-    let fewer = (count - 64) / 2;
-    if (first + 2 * fewer * bits as usize) / 8 + 8 <= section.len() {
-        return fewer;
-    }
-    0
-}
-
 // Writes points that are all present, from `from` up to `to`, whose numbers start at bit `first`.
 fn fill_present(
     section: &[u8],
@@ -105,7 +82,7 @@ fn fill_present(
     requires { ⌜ (from ≤ to) × (to ≤ length (now values)) × (bits ≤ 31) ⌝ }
     ensures { λ _. ⌜ Written (λ _. 1) (λ i. i) packing (numbersFrom (now (section .entry)) bits first) (to - from) from to (now (values .entry)) (now (values .exit)) (now (presence .entry)) (now (presence .exit)) ⌝ }
 {
-    let pairs = pairs_of(section, bits, to - from, first);
+    let pairs = bits::pairs_in(section.len(), BitPlace(first), bits, to - from);
     if pairs == 0 {
         fill_each(section, bits, packing, values, presence, from, to, first);
     } else {

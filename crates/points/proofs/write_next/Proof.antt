@@ -8,7 +8,7 @@ use Rattle.bits.specs.Bits.{bitAt}
 use Rattle.presence.specs.Presence.{onesBefore}
 use Rattle.presence.proofs.Laws.{ones-more}
 use Rattle.points.proofs.Laws.{rank-below, written-present}
-use Rattle.points.proofs.Missing.{cleared-written}
+use Rattle.points.proofs.Missing.{cleared-past}
 use Rattle.points.proofs.write_next.Statement.{statement}
 use Rattle.points.proofs.write_next.Tie as tie
 
@@ -20,7 +20,7 @@ found : (c : tie.After-clear-missing) → let a = c .before .before .before .bef
 found c =
     let s = c .before .before .before .before .before .before in
     let run = s .args .bitmap .now in
-    let cleared = cleared-written (s .args .packing) (λ _. s .args .x) (c .clear-missing .ensures) in
+    let cleared = cleared-past (s .args .packing) (λ _. s .args .x) (c .clear-missing .ensures) in
     rank-below (bitAt run) (onesBefore run) (ones-more run) {i = c .clear-missing .result} (length (s .args .values .now)) (omega (arith, cleared .used, s .pre .1 .1))
 
 rebuild-requires : tie.Need-rebuild-requires
@@ -49,7 +49,7 @@ returns c =
     let k = c .before .before .before .before .before in
     let a = k .before .before .before .before .before .before .args in
     let run = a .bitmap .now in
-    let cleared = cleared-written (a .packing) (λ _. a .x) (k .clear-missing .ensures) in
+    let cleared = cleared-past (a .packing) (λ _. a .x) (k .clear-missing .ensures) in
     rw (c .rebuild .ensures)
     (written-present (bitAt run) (onesBefore run) (ones-more run) (a .packing) (λ _. a .x) cleared (found k) (k .clear-missing .ensures .present (found k)) refl)
 

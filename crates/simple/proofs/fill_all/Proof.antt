@@ -2,6 +2,7 @@
 use mathlib.Core.Path.{refl}
 use native.Mathlib.Omega.{arith}
 use borrow.Author.Needs.{needs}
+use Rattle.points.proofs.Laws.{written-past}
 use Rattle.integers.specs.Integers.{simpleInteger}
 use Rattle.simple.proofs.Stretches.{written-rows}
 use Rattle.simple.proofs.fill_all.Statement.{statement}
@@ -24,7 +25,7 @@ returns c =
     let b = c .before .before .before .before .before .before .before in
     let a = b .before .before .before .before .args in
     written-rows (λ _. 1) (λ i. i) (λ i. refl) (a .packing) (simpleInteger (a .section .now) (a .bits)) refl
-    (rw (b .first-bit .ensures) at (c .before .before .before .before .fill-present .ensures)) refl (omega arith)
+    (written-past (rw (b .first-bit .ensures) at (c .before .before .before .before .fill-present .ensures))) refl (omega arith)
 
 pub fill-all-spec : {M : Type 1} → statement M
 fill-all-spec =

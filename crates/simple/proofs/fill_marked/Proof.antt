@@ -9,8 +9,7 @@ use Rattle.octets.specs.Places.{firstBit}
 use Rattle.bits.specs.Bits.{bitAt}
 use Rattle.presence.specs.Presence.{onesBefore}
 use Rattle.presence.proofs.Laws.{ones-more}
-use Rattle.points.specs.Written.{Written}
-use Rattle.points.proofs.Laws.{written-none}
+use Rattle.points.proofs.Laws.{WrittenPast, written-past, written-none}
 use Rattle.integers.specs.Integers.{simpleInteger}
 use Rattle.simple.specs.Simple.{numbersFrom}
 use Rattle.simple.proofs.Laws.{numbers-later, place-behind, bits-in-all}
@@ -25,7 +24,7 @@ Inv-loop section bitmap bits packing values₀ presence₀ at₀ i₀ values pre
     × (length presence ≡ length presence₀)
     × (at ≡ firstBit 6 + onesBefore bitmap i * bits)
     × (at ≤ 40 + i * 31)
-    × Written (bitAt bitmap) (onesBefore bitmap) packing (simpleInteger section bits) (onesBefore bitmap i) 0 i values₀ values presence₀ presence
+    × WrittenPast (bitAt bitmap) (onesBefore bitmap) packing (simpleInteger section bits) (onesBefore bitmap i) 0 i values₀ values presence₀ presence
 
 abbrev μ-loop : tie.MeasureT-loop
 μ-loop section bitmap bits packing values₀ presence₀ at₀ i₀ values presence at i = length values₀ - i
@@ -42,7 +41,8 @@ loop-holds c =
       refl,
       omega arith,
       omega arith,
-      written-none (bitAt (a .bitmap .now)) (onesBefore (a .bitmap .now)) (ones-more (a .bitmap .now)) (a .packing) (simpleInteger (a .section .now) (a .bits)) 0 (a .values .now) (a .presence .now) (omega arith),
+      written-past
+          (written-none (bitAt (a .bitmap .now)) (onesBefore (a .bitmap .now)) (ones-more (a .bitmap .now)) (a .packing) (simpleInteger (a .section .now) (a .bits)) 0 (a .values .now) (a .presence .now) (omega arith)),
     )
 
 present-until-requires : tie.Need-present-until-requires Inv-loop μ-loop
