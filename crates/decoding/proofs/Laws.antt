@@ -49,7 +49,8 @@ use Rattle.fields.specs.declared.Description.{Description}
 use Rattle.fields.specs.declared.Described.{Described}
 use Rattle.fields.specs.declared.Described.the-variants as Described
 use Rattle.fields.specs.Fields.{describe}
-use Rattle.fields.proofs.Laws.{Judged, described, described-grid, limited, describe-placed}
+use Rattle.fields.specs.Judged.{Judged}
+use Rattle.fields.proofs.Laws.{described, described-grid, limited, describe-placed}
 use Rattle.decoding.specs.declared.Decoded.{Decoded}
 use Rattle.decoding.specs.declared.Decoded.the-variants as Decoded
 use Rattle.decoding.specs.Decoding.{Rebuildable, packingBy, integerOf, isDecodable, presentOf, rankOf, doubleOf, Known, MarkedBy, hasRoom, gives, refuses, stretchOf, outcomeOf, outcomeBy, outcome, answerOf, valuesOf, presenceOf, valuesAfter, presenceAfter}

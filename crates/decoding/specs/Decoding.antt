@@ -5,11 +5,11 @@ use mathlib.Core.Path.{_≡_}
 use mathlib.Core.Bool.{Bool, _&&_, cond}
 use mathlib.Core.List.{List}
 use lib.Dec.{T, leb}
-use lib.IntN.{ℤ, pos, natAbs}
+use lib.IntN.{ℤ, natAbs}
 use lib.Ieee.{Float, binary32, ofBits}
 use lib.Ieee.Scale.{finite}
 use Rattle.rows.specs.Rows.{row, laid}
-use Rattle.sections.specs.Sections.{Lies, lengthAt, octetsIn}
+use Rattle.sections.specs.Sections.{Lies, lengthAt}
 use Rattle.refusals.specs.declared.Refusal.{Refusal}
 use Rattle.refusals.specs.declared.Why.the-variants as Why
 use Rattle.refusals.specs.Refusals.{refusal}
@@ -18,12 +18,9 @@ use Rattle.doubles.specs.declared.Packing.{Packing}
 use Rattle.doubles.specs.Doubles.{packingOf}
 use Rattle.geometry.specs.Positions.{pointsOf}
 use Rattle.representation.specs.declared.Representation.{Representation}
-use Rattle.representation.specs.declared.Template.{Template}
-use Rattle.representation.specs.declared.Template.the-variants as Template
 use Rattle.presence.specs.Presence.{bitmapLength, bitmapIn, onesBefore, presentAt, presentBefore}
 use Rattle.points.specs.Points.{doubleAt}
-use Rattle.integers.specs.Integers.{simpleInteger, areInRange}
-use Rattle.complex.specs.Complex.{groupsIn, integerIn}
+use Rattle.integers.specs.Integers.{integerAt, areInRange}
 use Rattle.fields.specs.declared.Description.{Description}
 use Rattle.fields.specs.declared.Described.{Described}
 use Rattle.fields.specs.declared.Described.the-variants as Described
@@ -41,13 +38,9 @@ pub record Rebuildable (r : Representation) : Type 0 where
   pub d22 : r .d .size ≤ 22
 
 module _ (file : List ℕ) (d : Description) where
-  -- The packed integer X numbered m, by the data template.
-  abbrev integerBy : Template → ℕ → ℤ
-  integerBy Template.Simple m = pos (simpleInteger (octetsIn file (d .starts .seven .0)) (d .representation .bits) m)
-  integerBy (Template.Complex g) m = integerIn (octetsIn file (d .starts .seven .0)) (groupsIn file (d .starts .seven .0) (d .representation .bits) g) m
-
+  -- The packed integer X numbered m.
   abbrev pub integerOf : ℕ → ℤ
-  integerOf m = integerBy (d .representation .template) m
+  integerOf m = integerAt file (d .starts .seven .0) (d .representation) m
 
   -- Refusal 16: one of the N integers is out of its range.
   abbrev pub isDecodable : Bool

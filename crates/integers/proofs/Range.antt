@@ -26,3 +26,12 @@ module _ (x : ℕ → ℤ) where
   pub in-range-out : (n : ℕ) {j : ℕ} → j < n → isPacked (x j) ≡ false → areInRange x n ≡ false
   in-range-out n {j} h e =
       split (areInRange x n) (λ all. let impossible : _≡_ {A = ℕ} 0 1 = cc (in-range-one n all h) in absurd (omega arith)) (λ fails. fails)
+
+  -- Where they are not all in it, one is not.
+  pub out-of-range : (n : ℕ) → areInRange x n ≡ false → (m : ℕ) × (m < n) × (isPacked (x m) ≡ false)
+  unfolding areInRange
+  out-of-range zero fails = let impossible : _≡_ {A = ℕ} 0 1 = cc in absurd (omega arith)
+  out-of-range (suc n) fails =
+      split (areInRange x n)
+      (λ before. (n, omega arith, rw before at fails))
+      (λ earlier. let found = out-of-range n earlier in (found .0, omega (arith, found .1), found .2))

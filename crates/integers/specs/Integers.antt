@@ -8,12 +8,16 @@ use lib.Dec.{ltb}
 use lib.IntN.{ℤ, pos, _+ℤ_, _-ℤ_, _*ℤ_}
 use Rattle.octets.specs.Places.{firstBit}
 use Rattle.octets.specs.Numbers.{whole}
+use Rattle.sections.specs.Sections.{octetsIn}
 use Rattle.bits.specs.Bits.{bitsAt}
 use Rattle.doubles.specs.Doubles.{isPacked}
 use Rattle.representation.specs.declared.Grouping.{Grouping}
+use Rattle.representation.specs.declared.Template.{Template}
+use Rattle.representation.specs.declared.Template.the-variants as Template
+use Rattle.representation.specs.declared.Representation.{Representation}
 use Rattle.packing.specs.declared.Differencing.{Differencing}
 use Rattle.packing.specs.declared.Layout.{Layout}
-use Rattle.packing.specs.Packing.{widthOf, lengthOf, valuesBefore, bitsBefore}
+use Rattle.packing.specs.Packing.{differencingAt, layoutOf, widthOf, lengthOf, valuesBefore, bitsBefore}
 
 -- Simple packing: the numbers of so many bits each, one behind the other, from octet 6 on.
 abbrev pub simpleInteger : List ℕ → ℕ → ℕ → ℕ
@@ -51,6 +55,14 @@ unfoldable pub integer : Differencing → (ℕ → ℕ) → ℕ → ℤ
 integer d stored zero = pos (d .first)
 integer d stored (suc zero) = pos (d .second)
 integer d stored (suc (suc m)) = pos (stored (suc (suc m))) +ℤ whole (d .zmin) +ℤ pos 2 *ℤ integer d stored (suc m) -ℤ integer d stored m
+
+-- The integer X numbered m of the section 7 at s, by what section 5 says.
+abbrev pub integerBy : List ℕ → ℕ → ℕ → Template → ℕ → ℤ
+integerBy file s bits Template.Simple m = pos (simpleInteger (octetsIn file s) bits m)
+integerBy file s bits (Template.Complex g) m = integer (differencingAt file s (g .extra)) (storedAt (octetsIn file s) (layoutOf bits g) bits g) m
+
+abbrev pub integerAt : List ℕ → ℕ → Representation → ℕ → ℤ
+integerAt file s r m = integerBy file s (r .bits) (r .template) m
 
 -- Refusal 16: the integers of the first so many values are all from 0 to 2,147,483,647.
 unfoldable pub areInRange : (ℕ → ℤ) → ℕ → Bool

@@ -81,10 +81,10 @@ fill-all-requires-2 c κs =
     (groups-sound file d known g e, (groups-decodable file d known g e ∙ decodable (section .before .before), (omega (arith, s .pre .1, few-points file d known), all)))
 
 same-length : tie.Need-same-length
-same-length c = search needs
+same-length c = c .before .before .before .values .given
 
 same-length-2 : tie.Need-same-length-2
-same-length-2 c = search needs
+same-length-2 c = c .before .presence .given
 
 returns-2 : tie.Need-returns-2
 returns-2 c =
@@ -108,10 +108,10 @@ returns-2 c =
     )
 
 same-length-3 : tie.Need-same-length-3
-same-length-3 c = search needs
+same-length-3 c = c .before .before .before .values2 .given
 
 same-length-4 : tie.Need-same-length-4
-same-length-4 c = search needs
+same-length-4 c = c .before .presence2 .given
 
 returns-3 : tie.Need-returns-3
 returns-3 c =

@@ -162,10 +162,10 @@ decode-marked-requires-2 c κs =
     ((s .pre, earlier-marked (s .args .file .now) (s .args .description) (s .pre) (told .marks2 .given .0 .0) (told .marks2 .given .1)), stretches tests)
 
 same-length : tie.Need-same-length
-same-length c = search needs
+same-length c = c .before .before .before .values .given .1
 
 same-length-2 : tie.Need-same-length-2
-same-length-2 c = search needs
+same-length-2 c = c .before .presence .given .1
 
 returns-2 : tie.Need-returns-2
 returns-2 c =
@@ -184,10 +184,10 @@ returns-2 c =
     )
 
 same-length-3 : tie.Need-same-length-3
-same-length-3 c = search needs
+same-length-3 c = c .before .before .before .values2 .given .1
 
 same-length-4 : tie.Need-same-length-4
-same-length-4 c = search needs
+same-length-4 c = c .before .presence2 .given .1
 
 returns-3 : tie.Need-returns-3
 returns-3 c =
@@ -206,10 +206,10 @@ returns-3 c =
     )
 
 same-length-5 : tie.Need-same-length-5
-same-length-5 c = search needs
+same-length-5 c = c .before .before .before .values3 .given .1
 
 same-length-6 : tie.Need-same-length-6
-same-length-6 c = search needs
+same-length-6 c = c .before .presence3 .given .1
 
 returns-4 : tie.Need-returns-4
 returns-4 c =

@@ -4,6 +4,7 @@ use mathlib.Core.List.{List, _++_}
 use Prim.Native.Nat.{ℕ}
 use native.Mathlib.Omega.{arith}
 use lib.ListN.{length}
+use mir.Facts.{fits-widen}
 use borrow.Author.Needs.{needs}
 use Rattle.calendar.specs.Calendar.{digitsOf}
 use Rattle.text.specs.Text.{ascii, decimal}
@@ -122,7 +123,7 @@ put-requires : tie.Need-put-requires
 put-requires c κs = told-room 1 (omega arith) (told-1 (c .before .before .before .before))
 
 cast-put-decimal : tie.Need-cast-put-decimal
-cast-put-decimal c = search needs
+cast-put-decimal c = fits-widen tt (c .struct-known .given .1 .1 .1 .0)
 
 put-decimal-requires : tie.Need-put-decimal-requires
 put-decimal-requires c κs = told-room 20 (omega arith) (told-2 (c .before .before .before .before))
@@ -163,7 +164,7 @@ put-requires-5 : tie.Need-put-requires-5
 put-requires-5 c κs = told-room 1 (omega arith) (told-7 (c .before .before .before .before))
 
 cast-put-decimal-2 : tie.Need-cast-put-decimal-2
-cast-put-decimal-2 c = search needs
+cast-put-decimal-2 c = fits-widen tt (c .struct-known2 .given .1 .1 .1 .1 .0 .0)
 
 put-decimal-requires-2 : tie.Need-put-decimal-requires-2
 put-decimal-requires-2 c κs = told-room 20 (omega arith) (told-8 (c .before .before .before .before))

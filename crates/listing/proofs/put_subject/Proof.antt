@@ -2,10 +2,11 @@
 use mathlib.Core.List.{List, _++_}
 use Prim.Native.Nat.{ℕ}
 use native.Mathlib.Omega.{arith}
+use mir.Facts.{fits-widen}
 use borrow.Author.Needs.{needs}
 use Rattle.text.specs.Text.{ascii, decimal}
 use Rattle.text.proofs.Laws.{decimal-short}
-use Rattle.listing.proofs.Laws.{Told, told-none, told-then, told-room}
+use Rattle.listing.proofs.Laws.{Told, told-none, told-then, told-room, told-length}
 use Rattle.listing.proofs.put_subject.Statement.{statement}
 use Rattle.listing.proofs.put_subject.Tie as tie
 
@@ -76,7 +77,7 @@ put-requires : tie.Need-put-requires
 put-requires c κs = told-room 1 (omega arith) (told-1 (c .before .before .before .before))
 
 cast-put-decimal : tie.Need-cast-put-decimal
-cast-put-decimal c = search needs
+cast-put-decimal c = fits-widen tt (c .struct-known .given .0)
 
 put-decimal-requires-2 : tie.Need-put-decimal-requires-2
 put-decimal-requires-2 c κs = told-room 20 (omega arith) (told-2 (c .before .before .before .before))
@@ -88,13 +89,13 @@ put-requires-2 : tie.Need-put-requires-2
 put-requires-2 c κs = told-room 1 (omega arith) (told-3 (c .before .before .before .before))
 
 cast-put-decimal-2 : tie.Need-cast-put-decimal-2
-cast-put-decimal-2 c = search needs
+cast-put-decimal-2 c = fits-widen tt (c .struct-known2 .given .1 .0)
 
 put-decimal-requires-3 : tie.Need-put-decimal-requires-3
 put-decimal-requires-3 c κs = told-room 20 (omega arith) (told-4 (c .before .before .before .before))
 
 same-length : tie.Need-same-length
-same-length c = search needs
+same-length c = told-length (told-5 (c .before .before))
 
 returns : tie.Need-returns
 returns c = told-5 (c .before .before) .put

@@ -1,6 +1,7 @@
 -- `tell::put_definition` meets its contract: four pieces are put one behind another.
 use mathlib.Core.List.{_∷_, []}
 use native.Mathlib.Omega.{arith}
+use mir.Facts.{fits-widen}
 use borrow.Author.Needs.{needs}
 use Rattle.fields.specs.Numbers.{levelNumbers, productNumbers, timeNumbers}
 use Rattle.tell.proofs.Laws.{puts-four, level-length, product-length}
@@ -8,16 +9,16 @@ use Rattle.tell.proofs.put_definition.Statement.{statement}
 use Rattle.tell.proofs.put_definition.Tie as tie
 
 cast-t12 : tie.Need-cast-t12
-cast-t12 c = search needs
+cast-t12 c = fits-widen tt (c .struct-known .given .0)
 
 cast-t13 : tie.Need-cast-t13
-cast-t13 c = search needs
+cast-t13 c = fits-widen tt (c .struct-known2 .given .1 .0)
 
 cast-t14 : tie.Need-cast-t14
-cast-t14 c = search needs
+cast-t14 c = fits-widen tt (c .struct-known3 .given .1 .1 .0)
 
 cast-t15 : tie.Need-cast-t15
-cast-t15 c = search needs
+cast-t15 c = fits-widen tt (c .struct-known4 .given .1 .1 .1 .0)
 
 slice-aggregate-put : tie.Need-slice-aggregate-put
 slice-aggregate-put c = search needs

@@ -1,5 +1,5 @@
 -- `tell::put_description` meets its contract: the pieces of a description are put one behind another, and they are 56 numbers in all.
-use mathlib.Core.Path.{_≡_}
+use mathlib.Core.Path.{_≡_, _∙_}
 use mathlib.Core.List.{List, _∷_, [], _++_}
 use Prim.Native.Nat.{ℕ, _≤_}
 use native.Mathlib.Omega.{arith}
@@ -99,7 +99,15 @@ put-starts-requires c κs =
     omega (arith, behind-front (fifth .before .before .before .before), fifth .put-representation .ensures .1, sixth .before .before .before .before .before .run5 .given, sixth .put3 .ensures .1, c .before .before .run6 .given)
 
 same-length : tie.Need-same-length
-same-length c = search needs
+same-length c =
+    let seventh = c .before in
+    let sixth = seventh .before .before .before .before in
+    let fifth = sixth .before .before .before .before .before .before in
+    let fourth = fifth .before .before .before .before in
+    let third = fourth .before .before .before .before in
+    let second = third .before .before .before .before in
+    let first = second .before .before .before .before .before .before in
+    seventh .run7 .given ∙ sixth .run6 .given ∙ fifth .run5 .given ∙ fourth .run4 .given ∙ third .run3 .given ∙ second .run2 .given ∙ first .run .given
 
 returns : tie.Need-returns
 returns c =

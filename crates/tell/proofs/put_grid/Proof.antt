@@ -2,6 +2,7 @@
 use mathlib.Core.Path.{ap}
 use mathlib.Core.List.{_∷_, []}
 use native.Mathlib.Omega.{arith}
+use mir.Facts.{fits-widen}
 use borrow.Author.Needs.{needs}
 use lib.ListN.{length}
 use Rattle.text.proofs.Laws.{puts-length}
@@ -11,16 +12,16 @@ use Rattle.tell.proofs.put_grid.Statement.{statement}
 use Rattle.tell.proofs.put_grid.Tie as tie
 
 cast-t10 : tie.Need-cast-t10
-cast-t10 c = search needs
+cast-t10 c = fits-widen tt (c .struct-known .given .0)
 
 cast-t11 : tie.Need-cast-t11
-cast-t11 c = search needs
+cast-t11 c = fits-widen tt (c .struct-known2 .given .1 .0)
 
 cast-t12 : tie.Need-cast-t12
-cast-t12 c = search needs
+cast-t12 c = fits-widen tt (c .struct-known3 .given .1 .1 .0)
 
 cast-t13 : tie.Need-cast-t13
-cast-t13 c = search needs
+cast-t13 c = fits-widen tt (c .struct-known4 .given .1 .1 .1 .0)
 
 slice-aggregate-put : tie.Need-slice-aggregate-put
 slice-aggregate-put c = search needs
@@ -47,10 +48,10 @@ put-requires-3 : tie.Need-put-requires-3
 put-requires-3 c κs = search needs
 
 cast-t10-2 : tie.Need-cast-t10-2
-cast-t10-2 c = search needs
+cast-t10-2 c = fits-widen tt (c .struct-known5 .given .1 .1 .1 .1 .1 .1 .0)
 
 cast-t11-2 : tie.Need-cast-t11-2
-cast-t11-2 c = search needs
+cast-t11-2 c = fits-widen tt (c .struct-known6 .given .1 .1 .1 .1 .1 .1 .1 .0)
 
 slice-aggregate-put-4 : tie.Need-slice-aggregate-put-4
 slice-aggregate-put-4 c = search needs

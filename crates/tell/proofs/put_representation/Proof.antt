@@ -1,6 +1,8 @@
 -- `tell::put_representation` meets its contract: four pieces are put one behind another.
+use mathlib.Core.Path.{_∙_}
 use mathlib.Core.List.{_∷_, []}
 use native.Mathlib.Omega.{arith}
+use mir.Facts.{fits-widen}
 use borrow.Author.Needs.{needs}
 use Rattle.representation.specs.Representation.{templateNumber}
 use Rattle.fields.specs.Numbers.{signedNumbers}
@@ -9,10 +11,10 @@ use Rattle.tell.proofs.put_representation.Statement.{statement}
 use Rattle.tell.proofs.put_representation.Tie as tie
 
 cast-t13 : tie.Need-cast-t13
-cast-t13 c = search needs
+cast-t13 c = fits-widen tt (c .struct-known .given .0)
 
 cast-t14 : tie.Need-cast-t14
-cast-t14 c = search needs
+cast-t14 c = fits-widen tt (c .struct-known2 .given .1 .0)
 
 slice-aggregate-put : tie.Need-slice-aggregate-put
 slice-aggregate-put c = search needs
@@ -39,7 +41,7 @@ put-requires-3 : tie.Need-put-requires-3
 put-requires-3 c κs = search needs
 
 cast-t13-2 : tie.Need-cast-t13-2
-cast-t13-2 c = search needs
+cast-t13-2 c = fits-widen tt (c .struct-known3 .given .1 .1 .1 .1 .0)
 
 template-number-requires : tie.Need-template-number-requires
 template-number-requires c κs = search needs
@@ -51,7 +53,12 @@ put-requires-4 : tie.Need-put-requires-4
 put-requires-4 c κs = search needs
 
 same-length : tie.Need-same-length
-same-length c = search needs
+same-length c =
+    let fourth = c .before in
+    let third = fourth .before .before .before .before .before .before .before in
+    let second = third .before .before .before .before .before .before in
+    let first = second .before .before .before .before .before .before in
+    fourth .run4 .given ∙ third .run3 .given ∙ second .run2 .given ∙ first .run .given
 
 returns : tie.Need-returns
 returns c =
