@@ -1,3 +1,7 @@
 -- The proofs of what is said of the whole reader.
+pub mod Demand1
+pub mod Demand2
+pub mod Demand3
+pub mod Rebuild
+pub mod Impostors
 pub mod Examples
-pub mod Decoded

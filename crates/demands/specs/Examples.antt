@@ -6,8 +6,9 @@ use Prim.Native.Nat.{ℕ}
 use lib.IntN.{ℤ, pos, negℤ}
 use lib.Ieee.{binary64, ofBits, toBits}
 use Rattle.octets.specs.declared.Signed.{Signed}
+use Rattle.octets.specs.Places.{at}
 use Rattle.octets.specs.Numbers.{numberAt, signedOf, whole}
-use Rattle.bits.specs.Bits.{bitAt, bitsAt}
+use Rattle.bits.specs.Bits.{bitsAt}
 use Rattle.calendar.specs.declared.Time.{Time}
 use Rattle.calendar.specs.declared.Unit.the-variants as Unit
 use Rattle.calendar.specs.declared.Later.the-variants as Later
@@ -15,10 +16,13 @@ use Rattle.calendar.specs.Calendar.{date, plus}
 use Rattle.doubles.specs.Doubles.{valueOf}
 use Rattle.geometry.specs.declared.Grid.{Grid}
 use Rattle.geometry.specs.Positions.{longitudeOf}
-use Rattle.presence.specs.Presence.{bitmapLength}
+use Rattle.presence.specs.declared.Presence.the-variants as Presence
+use Rattle.presence.specs.Presence.{bitmapLength, presentAt}
 use Rattle.representation.specs.declared.Grouping.{Grouping}
-use Rattle.packing.specs.Packing.{simpleLength, differencingAt, layoutOf}
-use Rattle.integers.specs.Integers.{storedAt, integer}
+use Rattle.representation.specs.declared.Template.the-variants as Template
+use Rattle.representation.specs.declared.Representation.{Representation}
+use Rattle.packing.specs.Packing.{simpleLength}
+use Rattle.integers.specs.Integers.{integerAt}
 
 -- The signed number that octets hold.
 abbrev signedIn : List ℕ → ℕ → ℤ
@@ -36,8 +40,18 @@ section7 = 0 ∷ 0 ∷ 0 ∷ 9 ∷ 7 ∷ 5 ∷ 7 ∷ 0x81 ∷ 0x0d ∷ []
 abbrev oneGroup : Grouping
 oneGroup = record { groups = 1; widths = record { reference = 2; bits = 0 }; lengths = record { reference = 0; increment = 0; last = 4; bits = 0 }; extra = 1 }
 
+abbrev inOneGroup : Representation
+inOneGroup = record { n = 4; r = 0; e = plain 0; d = plain 0; bits = 0; template = Template.Complex oneGroup }
+
 abbrev integerOf : ℕ → ℤ
-integerOf m = integer (differencingAt section7 0 1) (storedAt section7 (layoutOf 0 oneGroup) 0 oneGroup) m
+integerOf m = integerAt section7 0 inOneGroup m
+
+-- A section 6 of seven octets: its length and number, the indicator 0, and a bitmap.
+abbrev section6 : List ℕ
+section6 = 0 ∷ 0 ∷ 0 ∷ 7 ∷ 6 ∷ 0 ∷ 0xa0 ∷ []
+
+abbrev presentOf : ℕ → ℕ
+presentOf i = presentAt section6 (Presence.Own (at 0)) 4 i
 
 -- 2017-05, at a full hour.
 abbrev may : ℕ → ℕ → Time
@@ -63,6 +77,6 @@ pub record Examples : Type 0 where
   -- 84 hours after noon of 15 May 2017 the 19th begins.
   pub afterEightyFourHours : plus (may 15 12) 84 Unit.Hour ≡ Later.At (may 19 0)
   -- Of four points, the bitmap 0xA0 has the first and the third.
-  pub firstAndThird : bitAt (0xa0 ∷ []) 0 ∷ bitAt (0xa0 ∷ []) 1 ∷ bitAt (0xa0 ∷ []) 2 ∷ bitAt (0xa0 ∷ []) 3 ∷ [] ≡ 1 ∷ 0 ∷ 1 ∷ 0 ∷ []
+  pub firstAndThird : presentOf 0 ∷ presentOf 1 ∷ presentOf 2 ∷ presentOf 3 ∷ [] ≡ 1 ∷ 0 ∷ 1 ∷ 0 ∷ []
   -- On every grid that starts at 116.969697 degrees and goes on by 0.030303, column 1421 lies at 160.030260.
   pub column1421 : (g : Grid) → g .first .longitude ≡ 116969697 → g .di ≡ 30303 → longitudeOf g 1421 ≡ 160030260

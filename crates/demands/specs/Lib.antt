@@ -1,3 +1,9 @@
 -- What is said of the whole reader.
+pub mod Questions
+pub mod Demand1
+pub mod Demand2
+pub mod Demand3
+pub mod Rebuild
+pub mod Sample
+pub mod Impostors
 pub mod Examples
-pub mod Decoded

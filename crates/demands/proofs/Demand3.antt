@@ -1,0 +1,46 @@
+-- The proof of demand 3: the double of a point that is present is the one that is rebuilt from R, E, D and X, and these are in their limits.
+use mathlib.Core.Path.{_≡_, sym, ap, _∙_, subst}
+use mathlib.Core.List.{List}
+use Prim.Native.Nat.{ℕ, _+_}
+use lib.IntN.{pos}
+use Rattle.geometry.specs.Positions.{pointsOf}
+use Rattle.doubles.specs.Doubles.{valueOf}
+use Rattle.bound.specs.Bound.{Meets, InLimits}
+use Rattle.bound.proofs.Meets.{rebuilt-meets}
+use Rattle.fields.specs.declared.Description.{Description}
+use Rattle.fields.specs.declared.Described.the-variants as Described
+use Rattle.fields.specs.Fields.{describe}
+use Rattle.decoding.specs.Decoding.{integerOf, rankOf}
+use Rattle.decoding.proofs.Laws.{rebuildable}
+use Rattle.demands.specs.Demand2.{Present, Call, valueAt, Decodes}
+use Rattle.demands.specs.Demand3.{Rebuilt, Demand3}
+use Rattle.demands.proofs.Demand2.{decoded}
+
+one-description : {c d : Description} → Described.As c ≡ Described.As d → c ≡ d
+one-description e = cc
+
+one-integer : {x y : ℕ} → pos x ≡ pos y → x ≡ y
+one-integer e = cc
+
+module _ (file : List ℕ) (c : Call) (d : Description) (said : describe file (c .k) ≡ Described.As d) (i x : ℕ) (standard : integerOf file d (rankOf file d i) ≡ pos x) where
+  rebuilt : Present file d i (valueAt file c (c .start + i)) → Rebuilt file c d i x
+  rebuilt p =
+      let limits = rebuildable file d (c .k, said) in
+      let same : p .x ≡ x = one-integer (sym (p .standard) ∙ standard) in
+      let within : InLimits (d .representation .r) (d .representation .e) (d .representation .d) x =
+      record { reference = limits .finiteR; binary = limits .e127; decimal = limits .d22; packed = rw same at (p .inRange) } in
+      record {
+        limits = within;
+        meets = subst (Meets _ _ _) (sym (p .double ∙ ap (valueOf (d .representation .r) (d .representation .e) (d .representation .d)) same)) (rebuilt-meets _ _ _ x within);
+      }
+
+pub demand-3 : (file : List ℕ) → Demand3 file
+demand-3 file =
+    record {
+      near =
+          λ c n d answers said i x inside mark standard.
+          let known = decoded file c n answers in
+          let same : known .0 ≡ d = one-description (sym (known .1 .describes) ∙ said) in
+          let decodes : Decodes file c d = subst (Decodes file c) same (known .1) in
+          rebuilt file c d said i x standard (decodes .points i (rw (ap (λ (e : Description). pointsOf (e .grid)) (sym same) ∙ known .2) inside) .present mark);
+    }
