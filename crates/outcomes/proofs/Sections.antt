@@ -1,0 +1,67 @@
+-- The contracts about one section each leave nothing open: sections 1 and 3 to 7, and the points of a grid.
+use mathlib.Core.Path.{refl}
+use denote.Ref.{now}
+use Rattle.outcomes.specs.Determined.{Determined, SeenDetermined}
+use Rattle.outcomes.proofs.Facts.{alike, one}
+use Rattle.identification.proofs as identification
+use Rattle.geometry.proofs as geometry
+use Rattle.grid.proofs as grid
+use Rattle.product.proofs as product
+use Rattle.representation.proofs as representation
+use Rattle.presence.proofs as presence
+use Rattle.packing.proofs as packing
+
+-- Section 1.
+pub identification-identification-at : Determined identification.identification_at.ended (λ _. identification.identification_at.clauses)
+identification-identification-at _ 𝓤 _ _ _ _ _ _ _ _ _ _ _ _ = one 𝓤 (λ p q. (alike p q, refl))
+
+-- The points of a grid.
+pub geometry-is-taken : Determined geometry.is_taken.ended (λ _. geometry.is_taken.clauses)
+geometry-is-taken _ 𝓤 _ _ _ _ _ _ _ _ _ _ _ _ = one 𝓤 (λ p q. (alike p q, refl))
+
+pub geometry-points-of : Determined geometry.points_of.ended (λ _. geometry.points_of.clauses)
+geometry-points-of _ 𝓤 _ _ _ _ _ _ _ _ _ _ _ _ = one 𝓤 (λ p q. (alike p q, refl))
+
+pub geometry-position-of : Determined geometry.position_of.ended (λ _. geometry.position_of.clauses)
+geometry-position-of _ 𝓤 _ _ _ _ _ _ _ _ _ _ _ _ = one 𝓤 (λ p q. (alike p q, refl))
+
+-- Section 3.
+pub grid-grid-at : Determined grid.grid_at.ended (λ _. grid.grid_at.clauses)
+grid-grid-at _ 𝓤 _ _ _ _ _ _ _ _ _ _ _ _ = one 𝓤 (λ p q. (alike p q, refl))
+
+-- Section 4.
+pub product-product-definition-at : Determined product.product_definition_at.ended (λ _. product.product_definition_at.clauses)
+product-product-definition-at _ 𝓤 _ _ _ _ _ _ _ _ _ _ _ _ = one 𝓤 (λ p q. (alike p q, refl))
+
+-- Section 5.
+pub representation-representation-at : Determined representation.representation_at.ended (λ _. representation.representation_at.clauses)
+representation-representation-at _ 𝓤 _ _ _ _ _ _ _ _ _ _ _ _ = one 𝓤 (λ p q. (alike p q, refl))
+
+-- Section 6. Of a bitmap, handed back as a part of the file, it is the octets that are seen.
+pub presence-bitmap-in : SeenDetermined presence.bitmap_in.ended _ (λ _. now) (λ _. presence.bitmap_in.clauses)
+presence-bitmap-in _ 𝓤 _ _ _ _ _ _ _ _ _ _ _ _ = one 𝓤 (λ p q. (alike p q, refl))
+
+pub presence-ones-before : Determined presence.ones_before.ended (λ _. presence.ones_before.clauses)
+presence-ones-before _ 𝓤 _ _ _ _ _ _ _ _ _ _ _ _ = one 𝓤 (λ p q. (alike p q, refl))
+
+pub presence-presence-at : Determined presence.presence_at.ended (λ _. presence.presence_at.clauses)
+presence-presence-at _ 𝓤 _ _ _ _ _ _ _ _ _ _ _ _ = one 𝓤 (λ p q. (alike p q, refl))
+
+-- Section 7.
+pub packing-differencing-at : Determined packing.differencing_at.ended (λ _. packing.differencing_at.clauses)
+packing-differencing-at _ 𝓤 _ _ _ _ _ _ _ _ _ _ _ _ = one 𝓤 (λ p q. (alike p q, refl))
+
+pub packing-layout-of : Determined packing.layout_of.ended (λ _. packing.layout_of.clauses)
+packing-layout-of _ 𝓤 _ _ _ _ _ _ _ _ _ _ _ _ = one 𝓤 (λ p q. (alike p q, refl))
+
+pub packing-stored : Determined packing.stored.ended (λ _. packing.stored.clauses)
+packing-stored _ 𝓤 _ _ _ _ _ _ _ _ _ _ _ _ = one 𝓤 (λ p q. (alike (p .0) (q .0), refl))
+
+pub packing-width-of : Determined packing.width_of.ended (λ _. packing.width_of.clauses)
+packing-width-of _ 𝓤 _ _ _ _ _ _ _ _ _ _ _ _ = one 𝓤 (λ p q. (alike p q, refl))
+
+pub packing-length-of : Determined packing.length_of.ended (λ _. packing.length_of.clauses)
+packing-length-of _ 𝓤 _ _ _ _ _ _ _ _ _ _ _ _ = one 𝓤 (λ p q. (alike (p .0) (q .0), refl))
+
+pub packing-is-packed : Determined packing.is_packed.ended (λ _. packing.is_packed.clauses)
+packing-is-packed _ 𝓤 _ _ _ _ _ _ _ _ _ _ _ _ = one 𝓤 (λ p q. (alike p q, refl))

@@ -1,0 +1,2 @@
+-- What it means that a contract leaves nothing open.
+pub mod Determined
