@@ -1,6 +1,6 @@
 # The targets for daily work. `tools/test` and `tools/sample` need no make.
 .DEFAULT_GOAL := help
-.PHONY: help sample test bench check lib dev fmt house clean
+.PHONY: help sample test bench check lib dev fmt house believed clean
 
 help: ## List the targets.
 	@awk -F ':.*## ' '/^[a-z]+:.*## / { printf "  make %-8s %s\n", $$1, $$2 }' $(MAKEFILE_LIST)
@@ -28,6 +28,9 @@ fmt: ## Lay out every file of Rattle and of proofs.
 
 house: ## Hold the tree to the rules of the house.
 	@python3 tests/house.py
+
+believed: ## Count the lines of definitions that the promises stand on.
+	@python3 tests/believed.py
 
 clean: ## Remove all that was built.
 	rm -rf target

@@ -5,6 +5,8 @@ import re
 import subprocess
 import sys
 
+import believed
+
 TOP = os.path.dirname(os.path.dirname(os.path.abspath(__file__)))
 os.chdir(TOP)
 FILES = sorted(subprocess.run(['git', 'ls-files', '--cached', '--others', '--exclude-standard'], capture_output=True, text=True, check=True).stdout.split('\n')[:-1])
@@ -132,12 +134,82 @@ def short_functions():
                 start = None
 
 
-def nothing_asked_of_c():
-    """No function that C calls has a `requires`: it refuses instead."""
-    for name in sources('.rt'):
-        text = '\n'.join(lines_of(name))
-        for function in re.finditer(r'pub extern "C" fn (\w+)[^{]*?\n\s*requires', text):
-            yield '%s: %s' % (name, function.group(1))
+def nothing_asked_of_users():
+    """No function that docs/DEMANDS.md lists as called by users has a `requires`, and every one that C calls is listed."""
+    text = '\n'.join(lines_of('docs/DEMANDS.md'))
+    users = set(re.findall(r'`(\w+::\w+)`', text.split('## What carries')[1].split('\n## ')[0]))
+    for name in sources('lib.rt'):
+        crate = name.split('/')[1]
+        for kind, function, contract in re.findall(r'^pub (extern "C" )?fn (\w+)(.*?)^\{', '\n'.join(lines_of(name)), re.M | re.S):
+            called = '%s::%s' % (crate, function)
+            if kind and called not in users:
+                yield '%s: %s is not listed' % (name, called)
+            if called in users and 'requires' in contract:
+                yield '%s: %s asks something' % (name, called)
+            users.discard(called)
+    for called in sorted(users):
+        yield 'docs/DEMANDS.md: no function %s' % called
+
+
+def outcomes_are_determined():
+    """Every public function of a library has its theorem in crates/outcomes, of its own contract, and every theorem there has its function."""
+    functions, theorems = {}, {}
+    for name in FILES:
+        crate = re.match(r'crates/([a-z0-9_]+)/src/lib\.rt$', name)
+        for number, line in enumerate(lines_of(name) if crate else [], 1):
+            function = re.match(r'\s*pub (?:extern "C" )?fn (\w+)', line)
+            if function:
+                functions['%s.%s' % (crate.group(1), function.group(1))] = '%s:%d' % (name, number)
+        for number, line in enumerate(lines_of(name) if name.startswith('crates/outcomes/proofs/') else [], 1):
+            theorem = re.match(r'pub (\S+) : (?:Seen)?Determined (\w+\.\w+)\.ended .*\(λ _\. (\w+\.\w+)\.clauses\)$', line)
+            if theorem:
+                theorems[theorem.group(2)] = '%s:%d' % (name, number)
+                if theorem.group(1) != re.sub('[._]', '-', theorem.group(2)) or theorem.group(3) != theorem.group(2):
+                    yield '%s:%d: %s is of %s and %s' % ((name, number) + theorem.groups())
+    for function in sorted(set(functions) ^ set(theorems)):
+        yield '%s: %s' % ((functions[function], 'no theorem') if function in functions else (theorems[function], 'no such function'))
+
+
+def trust_is_counted():
+    """docs/TRUST.md tells the believed lines of each file, and their sum, as tests/believed.py counts them."""
+    text = '\n'.join(lines_of('docs/TRUST.md'))
+    rows = believed.table()
+    wanted = ['| %s | %d |' % row for row in rows] + ['%d lines of\ndefinitions in %d files' % (sum(count for _, count in rows), len(rows))]
+    for row in wanted:
+        if row not in text:
+            yield 'docs/TRUST.md: not there: ' + row.replace('\n', ' ')
+    for row in re.findall(r'^\| [a-z_]+/specs/.*\|$', text, re.M):
+        if row not in wanted:
+            yield 'docs/TRUST.md: not so: ' + row
+
+
+def demands_name_what_is_there():
+    """docs/DEMANDS.md names every must-fail edit, and each edit, definition and theorem that it or docs/TRUST.md names is there."""
+    text = '\n'.join(lines_of('docs/DEMANDS.md') + lines_of('docs/TRUST.md'))
+    edits = {re.sub(r'crates/(.*)/must-fail/(.*)\.edit', r'\1/\2', name) for name in FILES if '/must-fail/' in name}
+    named = set(re.findall(r'`([a-z]+/[a-z0-9_]+)`', text))
+    for edit in sorted(edits ^ named):
+        yield 'docs: %s %s' % (edit, 'is not named' if edit in edits else 'is no edit')
+    for names, file in re.findall(r'((?:`[^`]+`,? )+)\(([a-z]+/(?:specs|proofs)/\w+\.antt)\)', text):
+        lines = lines_of('crates/' + file) if 'crates/' + file in FILES else []
+        for name in re.findall(r'`([^`]+)`', names):
+            if not any(re.match(r'\s*(abbrev |unfoldable )*(pub )?(record |data )?%s[ :]' % re.escape(name), line) for line in lines):
+                yield 'docs: no %s in %s' % (name, file)
+
+
+def sample_is_the_sample():
+    """The file of two fields that theorems compute with is samples/two-fields.grib2."""
+    text = ' '.join(lines_of('crates/demands/specs/Sample.antt'))
+    parts = {name: re.findall(r'0x([0-9a-f]{2})|\b(high|low)\b', body) for name, body in re.findall(r'(\w+)(?: high low)? =\s+((?:(?:0x\w\w|high|low) ∷\s*)+)\[\]', text)}
+    whole = re.search(r'twoFields = (.*?) (?:unfoldable|--)', text).group(1).split(' ++ ')
+    octets = []
+    for part in whole:
+        name, *given = part.split()
+        lent = dict(zip(('high', 'low'), given))
+        octets += [int(octet or lent[word][2:], 16) for octet, word in parts[name]]
+    with open('samples/two-fields.grib2', 'rb') as sample:
+        if bytes(octets) != sample.read():
+            yield 'crates/demands/specs/Sample.antt'
 
 
 def own_words():
@@ -153,7 +225,7 @@ def own_words():
                 yield '%s:%d' % (name, number)
 
 
-RULES = [crates_are_listed, lowest_first, sources_in_crates, layout, must_fail_edits, opening_comments, printed_places, unused_names, short_functions, nothing_asked_of_c, own_words]
+RULES = [crates_are_listed, lowest_first, sources_in_crates, layout, must_fail_edits, opening_comments, printed_places, unused_names, short_functions, nothing_asked_of_users, outcomes_are_determined, trust_is_counted, demands_name_what_is_there, sample_is_the_sample, own_words]
 
 
 def main():
