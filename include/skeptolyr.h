@@ -4,8 +4,8 @@
  * its place. It reads nothing outside what it was lent, keeps nothing, allocates nothing, and always returns.
  *
  * What the caller owes: `file` points to `file_len` octets that can be read and that nothing changes during the call; `values` and `presence`
- * point to as many elements as their lengths say, which can be written and which nothing else reads or changes meanwhile. The file and the two
- * runs do not overlap.
+ * point to as many elements as their lengths say, which can be written and which nothing else reads or changes meanwhile, `values` aligned as doubles
+ * are. The file and the two runs do not overlap.
  */
 #ifndef SKEPTOLYR_H
 #define SKEPTOLYR_H
