@@ -184,12 +184,16 @@ def trust_is_counted():
 
 
 def demands_name_what_is_there():
-    """docs/DEMANDS.md names every must-fail edit, and each edit, definition and theorem that it or docs/TRUST.md names is there."""
+    """docs/DEMANDS.md names every must-fail edit, and each edit, function, definition and theorem that it or docs/TRUST.md names is there."""
     text = '\n'.join(lines_of('docs/DEMANDS.md') + lines_of('docs/TRUST.md'))
     edits = {re.sub(r'crates/(.*)/must-fail/(.*)\.edit', r'\1/\2', name) for name in FILES if '/must-fail/' in name}
     named = set(re.findall(r'`([a-z]+/[a-z0-9_]+)`', text))
     for edit in sorted(edits ^ named):
         yield 'docs: %s %s' % (edit, 'is not named' if edit in edits else 'is no edit')
+    for crate, function in sorted(set(re.findall(r'`([a-z]+)::(\w+)`', text))):
+        name = 'crates/%s/src/lib.rt' % crate
+        if name in FILES and not any(re.match(r'pub (extern "C" )?fn %s\b' % function, line) for line in lines_of(name)):
+            yield 'docs: no function %s::%s' % (crate, function)
     for names, file in re.findall(r'((?:`[^`]+`,? )+)\(([a-z]+/(?:specs|proofs)/\w+\.antt)\)', text):
         lines = lines_of('crates/' + file) if 'crates/' + file in FILES else []
         for name in re.findall(r'`([^`]+)`', names):
