@@ -7,7 +7,13 @@ use native.Mathlib.Omega.{arith}
 use borrow.Author.Tests.{ltb-false, leb-true, lt-ltb, le-ltb, le-leb, lt-leb}
 use lib.Dec.{ltb}
 use Rattle.octets.proofs.Cases.{split, chosen}
-use Rattle.bits.specs.Pairs.{leavesEight, pairsIn, Paired}
+use Rattle.bits.specs.Pairs.{leavesEight, pairsIn}
+
+-- So many pairs can be read two at a time: they are among the numbers asked for, two numbers fit a window, and eight octets are left behind each.
+pub record Paired (octets from b count pairs : ℕ) : Type 0 where
+  pub few : 2 * pairs ≤ count
+  pub narrow : 1 ≤ pairs → b ≤ 28
+  pub inside : 1 ≤ pairs → (from + 2 * pairs * b) / 8 + 8 ≤ octets
 
 -- The bits of the numbers that are read in pairs are few enough to be counted.
 pub paired-bits : {paired b : ℕ} → paired ≤ 4294967296 → b ≤ 28 → paired * b ≤ 120259084288

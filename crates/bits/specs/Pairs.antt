@@ -1,5 +1,5 @@
 -- How many numbers of a run are read two at a time, each pair in one window of eight octets. It is a matter of speed alone: the numbers are the same.
-use Prim.Native.Nat.{ℕ, _+_, _-_, _*_, _/_, _≤_}
+use Prim.Native.Nat.{ℕ, _+_, _-_, _*_, _/_}
 use mathlib.Core.Bool.{Bool, cond}
 use lib.Dec.{ltb, leb}
 
@@ -14,9 +14,3 @@ pairsIn octets from b count =
     cond (ltb 28 b) 0
     (cond (leavesEight octets from b (count / 2)) (count / 2)
     (cond (leavesEight octets from b ((count - 64) / 2)) ((count - 64) / 2) 0))
-
--- So many pairs can be read two at a time: they are among the numbers asked for, two numbers fit a window, and eight octets are left behind each.
-pub record Paired (octets from b count pairs : ℕ) : Type 0 where
-  pub few : 2 * pairs ≤ count
-  pub narrow : 1 ≤ pairs → b ≤ 28
-  pub inside : 1 ≤ pairs → (from + 2 * pairs * b) / 8 + 8 ≤ octets

@@ -10,16 +10,15 @@ use Rattle.bound.proofs.Meets.{rebuilt-meets}
 use Rattle.fields.specs.declared.Description.{Description}
 use Rattle.fields.specs.declared.Described.the-variants as Described
 use Rattle.fields.specs.Fields.{describe}
+use Rattle.fields.proofs.Laws.{one-description}
 use Rattle.decoding.specs.Decoding.{integerOf, rankOf}
 use Rattle.decoding.proofs.Laws.{rebuildable}
 use Rattle.demands.specs.Demand2.{Present, Call, valueAt, Decodes}
 use Rattle.demands.specs.Demand3.{Rebuilt, Demand3}
 use Rattle.demands.proofs.Demand2.{decoded}
 
-one-description : {c d : Description} → Described.As c ≡ Described.As d → c ≡ d
-one-description e = cc
-
-one-integer : {x y : ℕ} → pos x ≡ pos y → x ≡ y
+-- A whole number is one alone.
+pub one-integer : {m n : ℕ} → pos m ≡ pos n → m ≡ n
 one-integer e = cc
 
 module _ (file : List ℕ) (c : Call) (d : Description) (said : describe file (c .k) ≡ Described.As d) (i x : ℕ) (standard : integerOf file d (rankOf file d i) ≡ pos x) where

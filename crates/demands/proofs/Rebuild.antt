@@ -18,6 +18,7 @@ use Rattle.doubles.specs.Doubles.{valueOf, isPacked, isRebuildable, notRebuilda
 use Rattle.bound.specs.Bound.{exactS, Meets}
 use Rattle.bound.proofs.Meets.{rebuilt-meets, answered-in-limits}
 use Rattle.demands.specs.Rebuild.{Within, Rebuilds}
+use Rattle.demands.proofs.Demand3.{one-integer}
 
 -- A double is no refusal, and each answer is one alone.
 clash-rebuilt : {A : Type 0} {v : Float} {f : Refusal} → Rebuilt.Double v ≡ Rebuilt.Refused f → A
@@ -28,9 +29,6 @@ one-double e = cc
 
 one-refused : {f g : Refusal} → Rebuilt.Refused f ≡ Rebuilt.Refused g → f ≡ g
 one-refused e = cc
-
-one-integer : {m n : ℕ} → pos m ≡ pos n → m ≡ n
-one-integer e = cc
 
 -- A test that holds is true.
 is-true : (b : Bool) → T b → b ≡ true

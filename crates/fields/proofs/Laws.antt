@@ -63,8 +63,8 @@ limited file s r e = by (r .template) refl
 none : {A : Type 0} {r : Refusal} {d : Description} → Described.Refused r ≡ Described.As d → A
 none e = let z : _≡_ {A = ℕ} 0 1 = cc in absurd (omega arith)
 
-one-alone : {c d : Description} → Described.As c ≡ Described.As d → c ≡ d
-one-alone e = cc
+pub one-description : {c d : Description} → Described.As c ≡ Described.As d → c ≡ d
+one-description e = cc
 
 module _ (file : List ℕ) (l : Located) where
   abbrev JudgedAs : Description → Described → Type 0
@@ -78,7 +78,7 @@ module _ (file : List ℕ) (l : Located) where
       (λ m of-four. at-section-5 file l (JudgedAs d) i g m (λ _ _. none)
       (λ r of-five. at-section-6 file l (JudgedAs d) i g m r (λ _ _. none)
       (λ p of-six. at-section-7 file l (JudgedAs d) i g m r p (λ _. none)
-      (λ of-seven same. subst (Judged file l) (one-alone same)
+      (λ of-seven same. subst (Judged file l) (one-description same)
       (record { ofDiscipline = refl; ofOne = of-one; ofThree = of-three; ofFour = of-four; ofFive = of-five; ofSix = of-six; ofSeven = of-seven; ofStarts = refl })))))))
 
 -- A field whose sections are all taken is described so.

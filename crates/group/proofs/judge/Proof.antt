@@ -4,8 +4,7 @@ use Prim.Native.Nat.{_+_, _-_, _*_}
 use native.Mathlib.Omega.{arith}
 use borrow.Author.Needs.{needs}
 use lib.ListN.{length}
-use Rattle.bits.specs.Pairs.{Paired}
-use Rattle.bits.proofs.Pairs.{pairs-paired}
+use Rattle.bits.proofs.Pairs.{Paired, pairs-paired}
 use Rattle.group.specs.declared.Group.{Group}
 use Rattle.group.specs.declared.Worked.the-variants as Worked
 use Rattle.group.specs.Group.{workedBy}

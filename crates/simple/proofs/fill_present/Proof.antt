@@ -4,8 +4,7 @@ use Prim.Native.Nat.{_+_, _-_, _*_, _≤_}
 use native.Mathlib.Omega.{arith}
 use borrow.Author.Needs.{needs}
 use lib.ListN.{length}
-use Rattle.bits.specs.Pairs.{Paired}
-use Rattle.bits.proofs.Pairs.{pairs-paired}
+use Rattle.bits.proofs.Pairs.{Paired, pairs-paired}
 use Rattle.simple.specs.Simple.{numbersFrom}
 use Rattle.simple.proofs.Laws.{numbers-later, bits-in-all}
 use Rattle.points.proofs.Present.{all-then}
