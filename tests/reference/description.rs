@@ -1,0 +1,205 @@
+//! What is told about one field.
+
+use crate::calendar::Time;
+use crate::packing::Representation;
+use crate::sections::{Identification, ProductDefinition};
+use crate::tiling::Field;
+
+/// A corner of the grid, in millionths of a degree.
+#[derive(Clone, Copy, PartialEq, Eq, Debug)]
+pub struct GridPoint {
+    pub latitude: i64,
+    pub longitude: u32,
+}
+
+impl GridPoint {
+    fn numbers(self) -> [u64; 3] {
+        let [sign, size] = sign_and_size(self.latitude);
+        [sign, size, u64::from(self.longitude)]
+    }
+}
+
+/// The grid of section 3; the radius is in metres.
+#[derive(Clone, Copy, PartialEq, Eq, Debug)]
+pub struct Grid {
+    pub earth_code: u8,
+    pub radius: u32,
+    pub ni: u32,
+    pub nj: u32,
+    pub first: GridPoint,
+    pub last: GridPoint,
+    pub di: u32,
+    pub dj: u32,
+}
+
+impl Grid {
+    pub fn points(&self) -> u64 {
+        u64::from(self.ni) * u64::from(self.nj)
+    }
+
+    /// The latitude and longitude of a point below the point count.
+    pub fn place(&self, n: u64) -> (i64, u32) {
+        let (column, row) = (n % u64::from(self.ni), n / u64::from(self.ni));
+        let latitude = i128::from(self.first.latitude) - i128::from(row) * i128::from(self.dj);
+        let longitude = (u128::from(self.first.longitude) + u128::from(column) * u128::from(self.di)) % 360_000_000;
+        (latitude as i64, longitude as u32)
+    }
+}
+
+/// A level: the scaled level divided by ten to the factor.
+#[derive(Clone, Copy, PartialEq, Eq, Debug)]
+pub struct Level {
+    pub factor: i64,
+    pub scaled_level: u32,
+}
+
+#[derive(Clone, Copy, PartialEq, Eq, Debug)]
+pub enum IntervalKind {
+    Mean,
+    Sum,
+}
+
+#[derive(Clone, Copy, PartialEq, Eq, Debug)]
+pub enum Product {
+    Instant,
+    Interval { end: Time, kind: IntervalKind },
+}
+
+impl Product {
+    fn numbers(self) -> [u64; 8] {
+        match self {
+            Product::Instant => [0; 8],
+            Product::Interval { end, kind } => {
+                let kind_number = match kind {
+                    IntervalKind::Mean => 0,
+                    IntervalKind::Sum => 1,
+                };
+                [8, end.year, end.month, end.day, end.hour, end.minute, end.second, kind_number]
+            }
+        }
+    }
+}
+
+/// The file places where the sections in force start.
+#[derive(Clone, Copy, PartialEq, Eq, Debug)]
+pub struct SectionStarts {
+    pub section_1: u32,
+    pub section_3: u32,
+    pub section_4: u32,
+    pub section_5: u32,
+    pub section_6: u32,
+    pub section_7: u32,
+}
+
+/// All that a description holds; `r` is the single's four octets as a number, `bits` is octet 20 of section 5.
+#[derive(Clone, Copy, PartialEq, Eq, Debug)]
+pub struct Description {
+    pub discipline: u8,
+    pub status: u8,
+    pub reference_time: Time,
+    pub grid: Grid,
+    pub category: u8,
+    pub parameter: u8,
+    pub process_kind: u8,
+    pub first_surface_type: u8,
+    pub level: Option<Level>,
+    pub product: Product,
+    pub valid_time: Time,
+    pub n: u32,
+    pub r: u32,
+    pub e: i64,
+    pub d: i64,
+    pub bits: u8,
+    pub data_template: u16,
+    pub bitmap_indicator: u8,
+    pub starts: SectionStarts,
+}
+
+impl Description {
+    pub(crate) fn of(
+        field: &Field<'_>,
+        identification: Identification,
+        grid: Grid,
+        product: ProductDefinition,
+        representation: Representation,
+    ) -> Description {
+        Description {
+            discipline: field.discipline,
+            status: identification.status,
+            reference_time: identification.reference_time,
+            grid,
+            category: product.category,
+            parameter: product.parameter,
+            process_kind: product.process_kind,
+            first_surface_type: product.first_surface_type,
+            level: product.level,
+            product: product.product,
+            valid_time: product.valid_time,
+            n: representation.n,
+            r: representation.r,
+            e: representation.e,
+            d: representation.d,
+            bits: representation.bits,
+            data_template: representation.data_template,
+            bitmap_indicator: field.sections[6].octet(6),
+            starts: starts(field),
+        }
+    }
+
+    /// The time the listing prints: an interval's end, an instant's valid time.
+    pub fn listed_time(&self) -> Time {
+        match self.product {
+            Product::Instant => self.valid_time,
+            Product::Interval { end, .. } => end,
+        }
+    }
+
+    /// The whole description as 56 numbers; a signed number is told as its sign (1 when negative) and its size.
+    pub fn numbers(&self) -> Vec<u64> {
+        let grid = &self.grid;
+        let mut numbers = vec![u64::from(self.discipline), u64::from(self.status)];
+        numbers.extend(self.reference_time.numbers());
+        numbers.extend([u64::from(grid.earth_code), u64::from(grid.radius), u64::from(grid.ni), u64::from(grid.nj)]);
+        numbers.extend(grid.first.numbers());
+        numbers.extend(grid.last.numbers());
+        numbers.extend([u64::from(grid.di), u64::from(grid.dj)]);
+        numbers.extend([self.category, self.parameter, self.process_kind, self.first_surface_type].map(u64::from));
+        numbers.extend(self.level_numbers());
+        numbers.extend(self.product.numbers());
+        numbers.extend(self.valid_time.numbers());
+        numbers.extend([u64::from(self.n), u64::from(self.r)]);
+        numbers.extend(sign_and_size(self.e));
+        numbers.extend(sign_and_size(self.d));
+        numbers.extend([u64::from(self.bits), u64::from(self.data_template), u64::from(self.bitmap_indicator)]);
+        let starts = &self.starts;
+        let places = [starts.section_1, starts.section_3, starts.section_4, starts.section_5, starts.section_6, starts.section_7];
+        numbers.extend(places.map(u64::from));
+        numbers
+    }
+
+    /// Sign and size of the factor, then the scaled level; without a level, the octets all ones as they stand.
+    fn level_numbers(&self) -> [u64; 3] {
+        match self.level {
+            None => [0, 255, 0xFFFF_FFFF],
+            Some(level) => {
+                let [sign, size] = sign_and_size(level.factor);
+                [sign, size, u64::from(level.scaled_level)]
+            }
+        }
+    }
+}
+
+fn starts(field: &Field<'_>) -> SectionStarts {
+    SectionStarts {
+        section_1: field.sections[1].start,
+        section_3: field.sections[3].start,
+        section_4: field.sections[4].start,
+        section_5: field.sections[5].start,
+        section_6: field.sections[6].start,
+        section_7: field.sections[7].start,
+    }
+}
+
+fn sign_and_size(number: i64) -> [u64; 2] {
+    [u64::from(number < 0), number.unsigned_abs()]
+}
