@@ -1,14 +1,7 @@
-/* What the programs that lend files to proved code share: memory between pages that cannot be read, and numbers from standard input. */
-#include <stdint.h>
-#include <stdio.h>
-#include <stdlib.h>
-#include <sys/mman.h>
+/* What the programs that lend files to proved code share: memory between pages that cannot be read. */
+#include "numbers.h"
 
-static void give_up(const char *what)
-{
-    perror(what);
-    exit(2);
-}
+#include <sys/mman.h>
 
 /* Readable memory of so many octets, whole pages, between two pages that cannot be read. */
 static uint8_t *between_guards(size_t room, size_t page)
@@ -17,16 +10,4 @@ static uint8_t *between_guards(size_t room, size_t page)
     if (base == MAP_FAILED || mprotect(base + page, room, PROT_READ | PROT_WRITE) != 0)
         give_up("memory");
     return base + page;
-}
-
-/* The next number, of eight octets, the first counting most. */
-static int get_number(uint64_t *number)
-{
-    uint8_t octets[8];
-    if (fread(octets, 1, sizeof octets, stdin) != sizeof octets)
-        return 0;
-    *number = 0;
-    for (size_t i = 0; i < sizeof octets; i++)
-        *number = *number * 256 + octets[i];
-    return 1;
 }
