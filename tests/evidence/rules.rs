@@ -1,0 +1,92 @@
+//! Files on either side of each rule, each with what document 01 says of it in words. They are made and judged by hand in the tests in Python, and
+//! come here as a file, so that the independent decoder is held to them too.
+use crate::answers::Answer;
+use crate::answers_of;
+use crate::cases::{Case, Question};
+use std::fs;
+use std::io;
+use std::rc::Rc;
+
+/// What is told of a question that is answered, where the answer is not told.
+const TAKEN: u64 = u64::MAX;
+const CHECK: u64 = 1;
+const DESCRIBE: u64 = 2;
+/// Runs that hold the fields which the rules are shown on. Some of the grids are larger, and 15 is due.
+const ROOM: u64 = 20;
+
+pub struct Rule {
+    question: Question,
+    /// The code that answers, or that the question is taken.
+    told: u64,
+    file: Rc<Vec<u8>>,
+}
+
+fn number(octets: &mut &[u8]) -> Option<u64> {
+    let (first, rest) = (octets.get(..8)?, octets.get(8..)?);
+    *octets = rest;
+    Some(first.iter().fold(0, |number, octet| number << 8 | u64::from(*octet)))
+}
+
+fn decode(k: u64) -> Question {
+    Question::Decode { k, start: 1, values_length: ROOM, presence_length: ROOM + 1 }
+}
+
+/// The next rule: the kind of its question, k, what is told, and its file with its length before it.
+fn rule(octets: &mut &[u8]) -> Option<Rule> {
+    let (kind, k, told, length) = (number(octets)?, number(octets)?, number(octets)?, number(octets)? as usize);
+    let question = match kind {
+        CHECK => Question::Check,
+        DESCRIBE => Question::Describe { k },
+        _ => decode(k),
+    };
+    let file = Rc::new(octets.get(..length)?.to_vec());
+    *octets = &octets[length..];
+    Some(Rule { question, told, file })
+}
+
+pub fn read(path: &str) -> io::Result<Vec<Rule>> {
+    let octets = fs::read(path)?;
+    let mut rest = &octets[..];
+    let mut found = Vec::new();
+    while !rest.is_empty() {
+        found.push(rule(&mut rest).ok_or_else(|| io::Error::new(io::ErrorKind::InvalidData, "the file of rules is cut"))?);
+    }
+    Ok(found)
+}
+
+fn is_as_told(answer: &Answer, told: u64) -> bool {
+    let is_refused = answer.octets.len() == 8 && answer.code() >> 63 == 1;
+    if told == TAKEN {
+        !is_refused
+    } else {
+        answer.octets[..8] == told.to_be_bytes()
+    }
+}
+
+/// Is the independent decoder's answer to each rule the one that is told?
+pub fn hold(rules: &[Rule]) -> bool {
+    let by_reference = answers_of!(reference);
+    let mut wrong = 0;
+    for (index, rule) in rules.iter().enumerate() {
+        let answer = by_reference(&Case { kind: "rule", file: Rc::clone(&rule.file), question: rule.question.clone() });
+        if !is_as_told(&answer, rule.told) {
+            println!("rule {}: {:#018x} is told, and the independent decoder answers {:#018x}", index, rule.told, answer.code());
+            wrong += 1;
+        }
+    }
+    println!("the independent decoder on either side of each rule: {} files, {} answered otherwise than told", rules.len(), wrong);
+    wrong == 0 && !rules.is_empty()
+}
+
+/// Every question about the file of each rule.
+pub fn cases(rules: &[Rule], take: &mut dyn FnMut(Case) -> bool) {
+    for rule in rules {
+        let k = match rule.question {
+            Question::Describe { k } | Question::Decode { k, .. } => k,
+            _ => 0,
+        };
+        for question in [Question::Check, Question::Describe { k }, Question::Place { k, n: 1 }, decode(k)] {
+            take(Case { kind: "either side of a rule", file: Rc::clone(&rule.file), question });
+        }
+    }
+}

@@ -1,0 +1,156 @@
+/* Stands between a test program and the proved code, and puts in the fault whose number the environment's FAULT gives: none for 0.
+ *
+ * The test must find each, so that it is known to find what it looks for. The program is compiled to call these two functions in the library's place. */
+/* Here the library's functions are meant by their names, wherever the program's calls go. */
+#undef skeptolyr_check
+#undef skeptolyr_decode
+#include "skeptolyr.h"
+
+#include <stdlib.h>
+#include <string.h>
+
+uint64_t faulty_check(const uint8_t *file, size_t file_len);
+uint64_t faulty_decode(const uint8_t *file, size_t file_len, size_t k, size_t start, double *values, size_t values_len, uint8_t *presence, size_t presence_len);
+
+/* In the order of tests/faulty.py's table. */
+enum {
+    NONE,
+    /* of check */
+    COUNTS_MORE, COUNTS_NO_MESSAGE, COUNTS_EVERY_SECOND, REFUSES_THE_LENGTH,
+    /* of how decode is asked */
+    OTHER_FIELD, FILLS_BEHIND, READS_BEHIND, WRITES_NOTHING,
+    /* of decode's answer */
+    ANSWERS_MORE, ANSWERS_EVERY_SECOND, REFUSES_ALL, REFUSES_THE_FILE, FINDS_NO_FIELD,
+    /* of decode's refusal */
+    WRITES_AND_REFUSES, OTHER_NUMBER, NUMBER_PAST, PLACE_BESIDE, PLACE_OUTSIDE,
+    /* of decode's elements */
+    WRITES_BEHIND, WRITES_BESIDE, CHANGES_A_BIT, CHANGES_EVERY_SECOND, WRONG_PRESENCE, MISSING_GIVEN, MINUS_ZERO, NOT_FINITE
+};
+
+static int fault(void)
+{
+    const char *number = getenv("FAULT");
+    return number ? atoi(number) : NONE;
+}
+
+static uint64_t refusal(uint32_t number, uint32_t place)
+{
+    return UINT64_C(1) << 63 | (uint64_t)number << 32 | place;
+}
+
+uint64_t faulty_check(const uint8_t *file, size_t file_len)
+{
+    static unsigned int calls;
+    unsigned int is_second = calls++ % 2;
+    uint64_t answer = skeptolyr_check(file, file_len);
+    if (skeptolyr_is_refusal(answer))
+        return answer;
+    switch (fault()) {
+    case COUNTS_MORE:
+        return answer + 1;
+    case COUNTS_NO_MESSAGE:
+        return skeptolyr_fields(answer);
+    case COUNTS_EVERY_SECOND:
+        return answer + is_second;
+    case REFUSES_THE_LENGTH:
+        return refusal(1, 0);
+    default:
+        return answer;
+    }
+}
+
+/* Lends the proved code a file whose last octet cannot be read, and no run. */
+static uint64_t decode_cut(const uint8_t *file, size_t file_len, size_t k)
+{
+    uint8_t *cut = malloc(file_len - 1);
+    if (!cut)
+        abort();
+    memcpy(cut, file, file_len - 1);
+    uint64_t answer = skeptolyr_decode(cut, file_len, k, 0, NULL, 0, NULL, 0);
+    free(cut);
+    return answer;
+}
+
+/* Decodes into other runs than were lent. */
+static uint64_t decode_elsewhere(const uint8_t *file, size_t file_len, size_t k, size_t start, size_t values_len, size_t presence_len)
+{
+    double *values = malloc((values_len + 1) * sizeof(double));
+    uint8_t *presence = malloc(presence_len + 1);
+    if (!values || !presence)
+        abort();
+    uint64_t answer = skeptolyr_decode(file, file_len, k, start, values, values_len, presence, presence_len);
+    free(values);
+    free(presence);
+    return answer;
+}
+
+static uint64_t change_answer(uint64_t answer, int is_second)
+{
+    switch (fault()) {
+    case ANSWERS_MORE:
+        return answer + 1;
+    case ANSWERS_EVERY_SECOND:
+        return answer + (uint64_t)is_second;
+    case REFUSES_ALL:
+        return refusal(15, 0);
+    case REFUSES_THE_FILE:
+        return refusal(7, 0);
+    case FINDS_NO_FIELD:
+        return refusal(8, 0);
+    default:
+        return answer;
+    }
+}
+
+static uint64_t change_refusal(uint64_t answer, size_t file_len)
+{
+    uint32_t number = skeptolyr_refusal_number(answer), place = skeptolyr_refusal_place(answer);
+    switch (fault()) {
+    case OTHER_NUMBER:
+        return refusal(number + 1, place);
+    case NUMBER_PAST:
+        return number > 8 ? refusal(number + 8, place) : answer;
+    case PLACE_BESIDE:
+        return place > 0 ? answer - 1 : answer;
+    case PLACE_OUTSIDE:
+        return place > 0 ? refusal(number, (uint32_t)file_len) : answer;
+    default:
+        return answer;
+    }
+}
+
+static void change_elements(size_t start, size_t points, double *values, size_t values_len, uint8_t *presence, int is_second)
+{
+    uint64_t bits = fault() == MINUS_ZERO ? UINT64_C(1) << 63 : UINT64_C(0x7ff) << 52;
+    if (fault() == WRITES_BEHIND || (fault() == WRITES_BESIDE && start + points < values_len))
+        values[fault() == WRITES_BEHIND ? values_len : start + points] = 0;
+    if (presence[start] == 1 && (fault() == CHANGES_A_BIT || (fault() == CHANGES_EVERY_SECOND && is_second)))
+        ((uint8_t *)(values + start))[0] ^= 1;
+    if (fault() == WRONG_PRESENCE)
+        presence[start] = 2;
+    if (fault() == MISSING_GIVEN && presence[start] == 0)
+        values[start] = 1;
+    if (fault() == MINUS_ZERO || fault() == NOT_FINITE)
+        memcpy(values + start, &bits, sizeof bits);
+}
+
+uint64_t faulty_decode(const uint8_t *file, size_t file_len, size_t k, size_t start, double *values, size_t values_len, uint8_t *presence, size_t presence_len)
+{
+    static unsigned int calls;
+    int is_second = calls++ % 2;
+    size_t more = fault() == FILLS_BEHIND;
+    uint64_t answer;
+    if (fault() == READS_BEHIND && file_len > 1)
+        return decode_cut(file, file_len, k);
+    if (fault() == WRITES_NOTHING || fault() == REFUSES_ALL)
+        answer = decode_elsewhere(file, file_len, k, start, values_len, presence_len);
+    else
+        answer = skeptolyr_decode(file, file_len, fault() == OTHER_FIELD ? 0 : k, start + more, values, values_len + more, presence, presence_len + more);
+    if (skeptolyr_is_refusal(answer)) {
+        if (fault() == WRITES_AND_REFUSES && presence_len > 0)
+            presence[presence_len - 1] = 0;
+        return change_refusal(answer, file_len);
+    }
+    change_elements(start, (size_t)answer, values, values_len, presence, is_second);
+    return change_answer(answer, is_second);
+}
