@@ -103,11 +103,6 @@ def spliced(file, place, octets):
     return file[:place] + octets + file[place + len(octets):]
 
 
-def octet_changes(file):
-    """Every file that differs in one octet."""
-    return [spliced(file, i, bytes([octet])) for i in range(len(file)) for octet in range(256) if octet != file[i]]
-
-
 def two_fields():
     """Document 01's 276-octet file: 2 x 2 points, a bitmap and then 254, 12-bit values, a temperature and a sum of rain."""
     zero = bytes(4)
