@@ -1,0 +1,78 @@
+#!/usr/bin/env python3
+"""seeds.py FOLDER: writes the small files that the fuzzer starts from, each behind the octets of a question (fuzz/question.h).
+
+They are the files of the other tests: samples, document 01's examples, a file for each error that we have met, what an earlier field decides,
+refusals 15 and 16, fields in both templates under each indicator, and fields of some hundred points.
+"""
+import os
+import random
+import shutil
+import sys
+
+TOP = os.path.dirname(os.path.dirname(os.path.abspath(__file__)))
+sys.path.insert(0, os.path.join(TOP, 'tests'))
+import decoding  # noqa: E402
+import fields  # noqa: E402
+import grib  # noqa: E402
+import reading  # noqa: E402
+
+LONGEST_RUN = 2047
+LONGEST_FILE = 4000
+BITMAPS = 8
+
+
+def long_fields(rng):
+    """(file, k) for files whose bitmap has full words, empty ones and mixed ones, and whose groups are long and short."""
+    marks = [1] * 200 + [0, 1, 1, 0] * 20 + [1] * 70 + [0] * 70 + [1] * 80
+    values = [500 + rng.randrange(60) for _ in range(sum(marks))]
+    lengths = [64, 64, 5, 1, 64, 2, 64, 64]
+    lengths.append(len(values) - sum(lengths))
+    packed = [decoding.simple(values, 12), decoding.complex_packing(values, lengths), decoding.complex_packing(values)]
+    marked = [grib.section6(0, decoding.shapes.bitmap(marks)), grib.section6(254), grib.section6(254)]
+    under_bitmap = decoding.small_file(*packed, ni=len(marks), sections6=marked)
+    return [(under_bitmap, k) for k in range(3)] + [(decoding.small_file(given), 0) for given in packed]
+
+
+def files():
+    """(name, file, k)"""
+    found = [('no octet', b'', 0), ('grouped', grib.grouped(), 0), ('16,777,216 points', fields.blank(4096, 4096), 0)]
+    found += [('sample', file, 0) for file in fields.make.samples().values()] + [('sample', grib.two_fields(), k) for k in (1, 2)]
+    found += [('example', file, 0) for _, file, _, _ in decoding.examples()] + [('error', file, k) for _, file, k, _ in decoding.errors()]
+    found += [('earlier field', file, k) for _, file, k, _ in fields.later_fields() if k < 200]
+    groups = [numbers for _, numbers, _ in decoding.integers_out_of_range() if len(numbers[1]) < LONGEST_RUN]
+    found += [('integers', decoding.small_file(decoding.one_group(*numbers)), 0) for numbers in groups]
+    rng = random.Random(fields.SEED)
+    found += [('bitmap', file, number % 3) for number, file in enumerate(decoding.bitmaps(rng)[:BITMAPS])]
+    return found + [('long', file, k) for file, k in long_fields(rng)]
+
+
+def points_of(file, k):
+    """The field's point count as far as the runs reach, or a small number where there is no such field."""
+    try:
+        questions = decoding.whole_fields(file)
+    except reading.Refused:
+        return 4
+    return min(questions[k][3] - 3, LONGEST_RUN) if k < len(questions) else 4
+
+
+def seeds():
+    """(name, the input's octets). One question in four fits exactly, and one lends a run that is one element short."""
+    for number, (name, file, k) in enumerate(files()):
+        start, spare = ((2, 3), (0, 0), (1, 1), (1, -1))[number % 4]
+        values = max(0, min(LONGEST_RUN, start + points_of(file, k) + spare))
+        presence = min(LONGEST_RUN, start + points_of(file, k))
+        if len(file) <= LONGEST_FILE:
+            yield '%02d %s' % (number, name), bytes([k, start]) + grib.number(values, 2) + grib.number(presence, 2) + file
+
+
+def main():
+    folder = sys.argv[1]
+    shutil.rmtree(folder, ignore_errors=True)
+    os.makedirs(folder)
+    for name, octets in seeds():
+        with open(os.path.join(folder, name.replace(' ', '-').replace(',', '')), 'wb') as seed:
+            seed.write(octets)
+
+
+if __name__ == '__main__':
+    main()

@@ -1,0 +1,34 @@
+//! The independent decoder, as the fuzz target calls it from C: the same questions in the same form as include/skeptolyr.h.
+use std::slice;
+
+/// # Safety
+/// `file` points to `file_length` octets.
+#[no_mangle]
+pub unsafe extern "C" fn reference_check(file: *const u8, file_length: usize) -> u64 {
+    match reference::check(slice::from_raw_parts(file, file_length)) {
+        Ok(counts) => counts.code(),
+        Err(refusal) => refusal.code(),
+    }
+}
+
+/// # Safety
+/// `file` points to `file_length` octets, and `values` and `presence` to as many elements as their lengths say. None of the three overlap.
+#[no_mangle]
+pub unsafe extern "C" fn reference_decode(
+    file: *const u8,
+    file_length: usize,
+    k: usize,
+    start: usize,
+    values: *mut f64,
+    values_length: usize,
+    presence: *mut u8,
+    presence_length: usize,
+) -> u64 {
+    let file = slice::from_raw_parts(file, file_length);
+    let values = slice::from_raw_parts_mut(values, values_length);
+    let presence = slice::from_raw_parts_mut(presence, presence_length);
+    match reference::decode(file, k as u64, start as u64, values, presence) {
+        Ok(points) => u64::from(points),
+        Err(refusal) => refusal.code(),
+    }
+}

@@ -1,0 +1,238 @@
+/* The fuzz target: puts one question to skeptolyr_check and to skeptolyr_decode, and aborts where an answer or an element is not as it must be.
+ *
+ * What the header promises is judged here without believing the library, and every answer and every element is compared with those of the
+ * independent decoder. The file and the runs lie in heap memory of exactly their size, so that AddressSanitizer sees a step outside. */
+#include "question.h"
+#include "skeptolyr.h"
+
+#include <inttypes.h>
+#include <stdio.h>
+#include <stdlib.h>
+#include <string.h>
+
+/* libFuzzer calls this one. */
+int LLVMFuzzerTestOneInput(const uint8_t *data, size_t size);
+
+/* The independent decoder, by shim.rs. */
+uint64_t reference_check(const uint8_t *file, size_t file_length);
+uint64_t reference_decode(const uint8_t *file, size_t file_length, size_t k, size_t start, double *values, size_t values_length, uint8_t *presence,
+                          size_t presence_length);
+
+struct question {
+    const uint8_t *file;
+    size_t length, k, start, values_length, presence_length;
+};
+
+struct runs {
+    double *values;
+    uint8_t *presence;
+    int filling;
+};
+
+/* What every octet of a run holds before a call. The second call finds another filling, so that an element which is left as it was and one which
+ * happens to be given the filling are told apart. */
+enum { FILLING = 0xa5, OTHER_FILLING = 0x5a };
+
+/* The refusals, by the numbers that the header gives them. */
+enum { OVER_LENGTH = 1, NO_OCTET = 2, LAST_OF_CHECK = 7, NO_FIELD = 8, NO_ROOM = 15, LAST_OF_DECODE = 16 };
+
+static void fault(const struct question *q, const char *what, uint64_t found, uint64_t wanted)
+{
+    fprintf(stderr, "FAULT: %s\n  found %016" PRIx64 ", wanted %016" PRIx64 "\n", what, found, wanted);
+    fprintf(stderr, "  a file of %zu octets, field %zu from element %zu on", q->length, q->k, q->start);
+    fprintf(stderr, " in runs of %zu and %zu\n", q->values_length, q->presence_length);
+    abort();
+}
+
+/* ---- memory */
+
+/* What stands in for an allocation of no octets, which could be one of some: the end of one of so many. */
+enum { STAND_IN = 8 };
+
+static void *lend(size_t octets)
+{
+    uint8_t *lent = malloc(octets ? octets : STAND_IN);
+    if (!lent)
+        abort();
+    return octets ? lent : lent + STAND_IN;
+}
+
+static void take_back(void *lent, size_t octets)
+{
+    free(octets ? lent : (uint8_t *)lent - STAND_IN);
+}
+
+static struct runs lend_runs(const struct question *q, int filling)
+{
+    struct runs r = {lend(q->values_length * sizeof(double)), lend(q->presence_length), filling};
+    memset(r.values, filling, q->values_length * sizeof(double));
+    memset(r.presence, filling, q->presence_length);
+    return r;
+}
+
+static void take_back_runs(const struct question *q, struct runs r)
+{
+    take_back(r.values, q->values_length * sizeof(double));
+    take_back(r.presence, q->presence_length);
+}
+
+/* ---- the question */
+
+/* k or start by its octet: mostly that number, and now and then one near which a sum or a product leaves 32 or 64 bits. */
+static size_t near_or_far(uint8_t octet)
+{
+    static const uint64_t far[] = {UINT64_C(1) << 32, UINT64_C(1) << 61, UINT64_C(1) << 63, UINT64_MAX - 7};
+    return (size_t)(octet < 224 ? octet : far[(octet - 224) / 8] + octet % 8);
+}
+
+static size_t run_length(const uint8_t *octets)
+{
+    return (size_t)(octets[0] << 8 | octets[1]) & LONGEST_RUN;
+}
+
+/* ---- judging without another decoder */
+
+static void judge_refusal(const struct question *q, uint64_t answer, uint32_t last)
+{
+    uint32_t number = skeptolyr_refusal_number(answer), place = skeptolyr_refusal_place(answer);
+    if (number == 0 || number > last)
+        fault(q, "a refusal has no number of its function", number, last);
+    if (place != 0 && (place >= q->length || number <= NO_OCTET || number == NO_FIELD || number == NO_ROOM))
+        fault(q, "a refusal's place is not where it can be", place, 0);
+    if (number == OVER_LENGTH || (number == NO_OCTET) != (q->length == 0))
+        fault(q, "a file is refused by its length, which is another", number, q->length);
+}
+
+static void judge_check(const struct question *q, uint64_t answer)
+{
+    if (skeptolyr_is_refusal(answer))
+        judge_refusal(q, answer, LAST_OF_CHECK);
+    else if (skeptolyr_messages(answer) == 0 || skeptolyr_fields(answer) < skeptolyr_messages(answer))
+        fault(q, "check counts no message, or fewer fields than messages", skeptolyr_fields(answer), skeptolyr_messages(answer));
+}
+
+static void judge_decode(const struct question *q, uint64_t checked, uint64_t answer)
+{
+    if (skeptolyr_is_refusal(checked) && answer != checked)
+        fault(q, "decode does not refuse as check does", answer, checked);
+    if (skeptolyr_is_refusal(answer))
+        judge_refusal(q, answer, LAST_OF_DECODE);
+    if (skeptolyr_is_refusal(checked))
+        return;
+    if (skeptolyr_is_refusal(answer) && skeptolyr_refusal_number(answer) <= LAST_OF_CHECK)
+        fault(q, "decode refuses a file that check takes", answer, checked);
+    int is_without_field = answer >> 32 == (UINT64_C(1) << 31 | NO_FIELD);
+    if (is_without_field != (q->k >= skeptolyr_fields(checked)))
+        fault(q, "decode and check differ about the field count", answer, checked);
+}
+
+static uint64_t bits_of(const double *value)
+{
+    uint64_t bits;
+    memcpy(&bits, value, sizeof bits);
+    return bits;
+}
+
+/* An element of the field's stretch: every double is finite, none is -0, and a missing point is given +0. */
+static void judge_point(const struct question *q, uint64_t bits, uint8_t presence)
+{
+    const uint64_t sign = UINT64_C(1) << 63, infinite = UINT64_C(0x7ff) << 52;
+    if (presence > 1)
+        fault(q, "a presence is neither 0 nor 1", presence, 1);
+    if ((bits & infinite) == infinite)
+        fault(q, "a double is not finite", bits, 0);
+    if (bits == sign)
+        fault(q, "a double is -0", bits, 0);
+    if (presence == 0 && bits != 0)
+        fault(q, "a missing point is given a double that is not +0", bits, 0);
+}
+
+/* All octets of a part of a run are the filling: the first is, and each is as the one before it. */
+static void judge_untouched(const struct question *q, const void *run, size_t from, size_t to, int filling)
+{
+    const uint8_t *octets = (const uint8_t *)run + from;
+    if (from < to && (octets[0] != filling || memcmp(octets, octets + 1, to - from - 1) != 0))
+        fault(q, "an element outside the field's stretch has changed", octets[0], (uint64_t)filling);
+}
+
+/* Judges both runs whole. The stretch has no element where decode has refused. */
+static void judge_runs(const struct question *q, uint64_t answer, struct runs r)
+{
+    size_t shorter = q->values_length < q->presence_length ? q->values_length : q->presence_length;
+    size_t first = 0, points = 0;
+    if (!skeptolyr_is_refusal(answer)) {
+        if (answer == 0 || q->start > shorter || answer > shorter - q->start)
+            fault(q, "the point count is 0, or does not fit in both runs", answer, shorter);
+        first = q->start;
+        points = (size_t)answer;
+    }
+    judge_untouched(q, r.values, 0, first * sizeof(double), r.filling);
+    judge_untouched(q, r.values, (first + points) * sizeof(double), q->values_length * sizeof(double), r.filling);
+    judge_untouched(q, r.presence, 0, first, r.filling);
+    judge_untouched(q, r.presence, first + points, q->presence_length, r.filling);
+    for (size_t i = first; i < first + points; i++)
+        judge_point(q, bits_of(r.values + i), r.presence[i]);
+}
+
+/* ---- asking, and comparing */
+
+static uint64_t ask_check(const struct question *q)
+{
+    uint64_t answer = skeptolyr_check(q->file, q->length), again = skeptolyr_check(q->file, q->length), wanted = reference_check(q->file, q->length);
+    judge_check(q, answer);
+    if (answer != again)
+        fault(q, "check answers twice, and differently", again, answer);
+    if (answer != wanted)
+        fault(q, "check and the independent decoder differ", answer, wanted);
+    return answer;
+}
+
+static uint64_t ask_decode(const struct question *q, struct runs r)
+{
+    return skeptolyr_decode(q->file, q->length, q->k, q->start, r.values, q->values_length, r.presence, q->presence_length);
+}
+
+/* Elements from one on, so many of them, that must be the same in two runs. */
+static void compare(const struct question *q, const char *what, struct runs found, struct runs wanted, size_t from, size_t count)
+{
+    for (size_t i = from; i < from + count; i++) {
+        uint64_t have = bits_of(found.values + i), want = bits_of(wanted.values + i);
+        if (have != want || found.presence[i] != wanted.presence[i])
+            fault(q, what, have != want ? have : found.presence[i], have != want ? want : wanted.presence[i]);
+    }
+}
+
+static void ask_decode_thrice(const struct question *q, uint64_t checked)
+{
+    struct runs first = lend_runs(q, FILLING), second = lend_runs(q, OTHER_FILLING), third = lend_runs(q, FILLING);
+    uint64_t answer = ask_decode(q, first), again = ask_decode(q, second);
+    uint64_t wanted = reference_decode(q->file, q->length, q->k, q->start, third.values, q->values_length, third.presence, q->presence_length);
+    judge_decode(q, checked, answer);
+    if (answer != again)
+        fault(q, "decode answers twice, and differently", again, answer);
+    judge_runs(q, answer, first);
+    judge_runs(q, answer, second);
+    if (answer != wanted)
+        fault(q, "decode and the independent decoder differ", answer, wanted);
+    judge_runs(q, answer, third);
+    if (!skeptolyr_is_refusal(answer)) {
+        compare(q, "decode fills twice, and differently", second, first, q->start, (size_t)answer);
+        compare(q, "an element and the independent decoder's differ", first, third, q->start, (size_t)answer);
+    }
+    take_back_runs(q, first);
+    take_back_runs(q, second);
+    take_back_runs(q, third);
+}
+
+int LLVMFuzzerTestOneInput(const uint8_t *data, size_t size)
+{
+    if (size < QUESTION_OCTETS)
+        return 0;
+    size_t length = size - QUESTION_OCTETS;
+    uint8_t *file = lend(length);
+    memcpy(file, data + QUESTION_OCTETS, length);
+    struct question q = {file, length, near_or_far(data[0]), near_or_far(data[1]), run_length(data + 2), run_length(data + 4)};
+    ask_decode_thrice(&q, ask_check(&q));
+    take_back(file, length);
+    return 0;
+}
