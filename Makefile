@@ -1,6 +1,6 @@
 # The targets for daily work. `tools/test` and `tools/sample` need no make.
 .DEFAULT_GOAL := help
-.PHONY: help sample test bench check lib dev fmt house believed clean
+.PHONY: help sample test soak bench peers fuzz check lib dev fmt house believed clean
 
 help: ## List the targets.
 	@awk -F ':.*## ' '/^[a-z]+:.*## / { printf "  make %-8s %s\n", $$1, $$2 }' $(MAKEFILE_LIST)
@@ -11,8 +11,17 @@ sample: ## Check and list the sample files, and ask the worked examples of the p
 test: ## Prove every crate, try every must-fail edit, and run every other test: the gate.
 	@tools/test
 
+soak: ## Go on comparing with fresh seeds, for ten minutes or as many as are given: make soak MINUTES=60.
+	@tests/evidence/run soak $(or $(MINUTES),10)
+
 bench: ## Measure the proved code natively on this machine, and print the times.
 	@bench/run
+
+peers: ## Put damaged files to Skeptolyr and to other readers, and write docs/PEERS.md.
+	@tests/peers/run
+
+fuzz: ## Fuzz the proved code natively, for ten minutes or as many as are given: make fuzz MINUTES=60.
+	@fuzz/run $(MINUTES)
 
 check: ## Prove what has changed, and run the programs.
 	rt check
