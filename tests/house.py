@@ -120,15 +120,16 @@ def unused_names():
 
 
 def short_functions():
-    """No function has more than 40 lines beside its contract."""
-    for name in sources('.rt'):
-        start = None
-        for number, line in enumerate(lines_of(name), 1):
-            if re.match(r'(pub )?(extern "C" )?fn ', line):
-                start, contract = number, 0
+    """No function in Rattle, Rust or C has more than 40 lines beside its contract."""
+    heads = {'.rt': r'(pub )?(extern "C" )?fn ', '.rs': r'\s*(pub |pub\(crate\) |#\[no_mangle\] )*(extern "C" )?fn ', '.c': r'[a-z].*\)$', '.h': r'[a-z].*\)$'}
+    for name in FILES:
+        start, head = None, heads.get(os.path.splitext(name)[1], r'(?!)')
+        for number, line in enumerate(lines_of(name) if head != r'(?!)' else [], 1):
+            if re.match(head, line):
+                start, contract, end = number, 0, re.match(r'\s*', line).group() + '}'
             if start and re.match(r'    (requires|ensures) ', line):
                 contract += 1
-            if line == '}' and start:
+            if start and line == end:
                 if number - start + 1 - contract > 40:
                     yield '%s:%d: %d lines' % (name, start, number - start + 1 - contract)
                 start = None
@@ -201,6 +202,25 @@ def demands_name_what_is_there():
                 yield 'docs: no %s in %s' % (name, file)
 
 
+def evidence_is_counted():
+    """docs/EVIDENCE.md, docs/PEERS.md and the README count the faults, the rules and the kinds of damage as the tests do."""
+    sys.path[:0] = [os.path.join(TOP, 'tests', folder) for folder in ('evidence', 'peers')]
+    import damage
+    import faults
+    import faulty
+    import rules
+    damages = len(damage.kinds())
+    kinds = re.search(r'KINDS: \[Kind; (\d+)\]', '\n'.join(lines_of('tests/evidence/damage.rs'))).group(1)
+    wanted = [
+        ('docs/EVIDENCE.md', '%d faults are put into copies' % len(faults.FAULTS)), ('README.md', '%d faulty copies' % len(faults.FAULTS)),
+        ('docs/EVIDENCE.md', '%d faults stand between' % (len(faulty.FAULTS) - 1)), ('docs/EVIDENCE.md', '%d files on either side of each rule' % len(list(rules.told()))),
+        ('docs/DEMANDS.md', '%d files on either side of each rule' % len(list(rules.told()))), ('docs/EVIDENCE.md', kinds + ' kinds of damage'),
+        ('docs/EVIDENCE.md', '%d damaged files' % damages), ('README.md', '%d damaged files' % damages), ('docs/PEERS.md', 'damages it in %d ways' % damages)]
+    for name, words in wanted:
+        if words not in ' '.join(lines_of(name)):
+            yield '%s: not there: %s' % (name, words)
+
+
 def sample_is_the_sample():
     """The file of two fields that theorems compute with is samples/two-fields.grib2."""
     text = ' '.join(lines_of('crates/demands/specs/Sample.antt'))
@@ -229,7 +249,7 @@ def own_words():
                 yield '%s:%d' % (name, number)
 
 
-RULES = [crates_are_listed, lowest_first, sources_in_crates, layout, must_fail_edits, opening_comments, printed_places, unused_names, short_functions, nothing_asked_of_users, outcomes_are_determined, trust_is_counted, demands_name_what_is_there, sample_is_the_sample, own_words]
+RULES = [crates_are_listed, lowest_first, sources_in_crates, layout, must_fail_edits, opening_comments, printed_places, unused_names, short_functions, nothing_asked_of_users, outcomes_are_determined, trust_is_counted, demands_name_what_is_there, evidence_is_counted, sample_is_the_sample, own_words]
 
 
 def main():

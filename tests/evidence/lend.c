@@ -207,7 +207,7 @@ int main(void)
     signal(SIGBUS, touched);
     page = (size_t)sysconf(_SC_PAGESIZE);
     file_room = (UINT64_C(1) << 28) + page;
-    run_room = (UINT64_C(1) << 28) / page * page;
+    run_room = (UINT64_C(1) << 26) / page * page;
     struct view front = new_view(), back = new_view();
     struct run one[] = {new_run(sizeof(double)), new_run(1)}, other[] = {new_run(sizeof(double)), new_run(1)};
 

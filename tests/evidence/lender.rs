@@ -108,10 +108,11 @@ impl Lender {
         let mut outcome = comparing.join().expect("the comparing thread");
         let ended = process.wait();
         let is_well = ended.as_ref().map_or(false, ExitStatus::success);
+        let how = ended.map_or_else(|fault| fault.to_string(), |status| status.to_string());
         if let (false, Some(last)) = (is_well, outcome.differences.last_mut()) {
-            last.what += &format!("; the program ended with {:?}", ended);
+            last.what += &format!("; the program's end: {}", how);
         } else if !is_well {
-            outcome.differences.push(Difference { number: 0, what: format!("every case is answered, and the program ended with {:?}", ended) });
+            outcome.differences.push(Difference { number: 0, what: format!("every case is answered; the program's end: {}", how) });
         }
         outcome
     }

@@ -1,0 +1,46 @@
+"""The files on either side of each rule, with what document 01 says of each in words, as the tests in Python have them. The independent decoder is
+held to them, and they are cases like others."""
+import os
+import sys
+
+sys.path.insert(0, os.path.dirname(os.path.dirname(os.path.abspath(__file__))))
+import decoding  # noqa: E402
+import fields  # noqa: E402
+import grib  # noqa: E402
+import tiling  # noqa: E402
+
+# The kinds of question, and what is told of one that is answered, where the answer is not told.
+CHECK, DESCRIBE, DECODE, TAKEN = 1, 2, 3, 2 ** 64 - 1
+# The runs of these questions have room for fewer points.
+ROOM = 20
+
+
+def refused(number, place):
+    return 1 << 63 | number << 32 | place
+
+
+def place_of_section_7(file):
+    """Where the last section of a file of one field starts."""
+    at = 16
+    while file[at + 4] != 7:
+        at += int.from_bytes(file[at:at + 4], 'big')
+    return at
+
+
+def told():
+    """(kind of question, k, what is told, file)"""
+    for _, file, answer in tiling.one_rule_each():
+        yield CHECK, 0, answer, file
+    for _, file, k, refusal in [(name, file, 0, refusal) for name, file, refusal in fields.rules()] + fields.later_fields():
+        yield DESCRIBE, k, refused(*refusal) if refusal else TAKEN, file
+    for _, numbers, taken in decoding.integers_out_of_range():
+        file, points = decoding.small_file(decoding.one_group(*numbers)), len(numbers[1])
+        if points < ROOM:
+            yield DECODE, 0, points if taken else refused(16, place_of_section_7(file)), file
+
+
+def write(path):
+    """Writes the rules as tests/evidence/rules.rs reads them."""
+    with open(path, 'wb') as rules:
+        for *numbers, file in told():
+            rules.write(b''.join(grib.number(value, 8) for value in [*numbers, len(file)]) + file)
