@@ -7,6 +7,8 @@ import subprocess
 import sys
 
 TOP = os.path.dirname(os.path.dirname(os.path.abspath(__file__)))
+# What every program of ours in C is compiled with.
+FLAGS = ['-std=c99', '-D_DEFAULT_SOURCE', '-Wall', '-Wextra', '-pedantic', '-Werror', '-I' + os.path.join(TOP, 'include')]
 
 
 def digest():
@@ -41,8 +43,8 @@ def program(crate, source, *more, name=None):
     archive = make(crate)
     native = platform.machine() == 'x86_64'
     out = os.path.join(TOP, 'target', name or os.path.splitext(os.path.basename(source))[0])
-    subprocess.run(['gcc' if native else 'x86_64-linux-gnu-gcc', '-std=c99', '-D_DEFAULT_SOURCE', '-O2', '-Wall', '-Wextra', '-pedantic', '-Werror',
-                    '-static', '-Iinclude', source, *more, archive, '-o', out], cwd=TOP, check=True)
+    compiler = 'gcc' if native else 'x86_64-linux-gnu-gcc'
+    subprocess.run([compiler, *FLAGS, '-O2', '-static', source, *more, archive, '-o', out], cwd=TOP, check=True)
     if native:
         return [out]
     kit = os.path.dirname(os.path.dirname(subprocess.run(['rt', 'doc'], capture_output=True, text=True, check=True).stdout.strip()))

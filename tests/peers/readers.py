@@ -26,7 +26,7 @@ MEMORY = 1 << 30
 # What a program of ours ends with where the fault is not the reader's.
 OWN_FAULT = 2
 HERE = os.path.dirname(os.path.abspath(__file__))
-COMPILER = ['gcc', '-std=c99', '-D_DEFAULT_SOURCE', '-O2', '-Wall', '-Wextra', '-pedantic', '-Werror', '-I' + os.path.join(damage.TOP, 'include')]
+COMPILER = ['gcc', *archive.FLAGS, '-O2']
 
 Told = collections.namedtuple('Told', 'fields errors printed ended')
 Field = collections.namedtuple('Field', 'thing says doubles presence')
