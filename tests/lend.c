@@ -10,7 +10,7 @@
  * right behind an unreadable page and once right before one. The runs of a call that is to be refused lie in memory that can be neither read nor
  * written. Those of another call are lent twice: once everything before the field's stretch is out of reach, and once everything behind it.
  * Both times the answer and the stretch must be the same. */
-#include "../lent.h"
+#include "lent.h"
 #include "skeptolyr.h"
 
 #include <signal.h>
