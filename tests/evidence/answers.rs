@@ -1,4 +1,6 @@
 //! What a decoder answers to a case, in one form for all questions: octets that can be compared, recorded and told apart.
+use crate::walk::number_at;
+use std::io::{self, Read};
 
 /// What every octet of a lent run holds before a call. No presence is that, and no double of a field is made of it.
 const UNTOUCHED: u8 = 0xa5;
@@ -30,7 +32,14 @@ impl Answer {
 
 /// The first number of an answer.
 pub fn code(octets: &[u8]) -> u64 {
-    octets[..8].iter().fold(0, |number, octet| number << 8 | u64::from(*octet))
+    number_at(octets, 0, 8)
+}
+
+/// The next number of those that programs and scripts write, each in eight octets.
+pub fn read_number(from: &mut impl Read) -> io::Result<u64> {
+    let mut octets = [0; 8];
+    from.read_exact(&mut octets)?;
+    Ok(code(&octets))
 }
 
 /// The number of a refusal, or 0 where there is none.

@@ -1,6 +1,7 @@
 //! Valid files as ecCodes reads them, against the independent decoder: how many fields, what each is, which points are present, and each value within
 //! what document 01 allows. Where ecCodes is known to differ, what it is known for is left out, counted by name, and counted again where it does
 //! differ; the rest of the field is compared.
+use crate::answers::read_number;
 use crate::files::valid;
 use crate::random::Random;
 use reference::{Description, Level, Product};
@@ -30,16 +31,10 @@ struct Told {
     presence: Vec<u8>,
 }
 
-fn number(from: &mut impl Read) -> io::Result<u64> {
-    let mut octets = [0; 8];
-    from.read_exact(&mut octets)?;
-    Ok(u64::from_be_bytes(octets))
-}
-
 fn field(from: &mut impl Read) -> io::Result<Told> {
-    let numbers = (0..NUMBERS).map(|_| number(from)).collect::<io::Result<Vec<u64>>>()?;
-    let points = number(from)?;
-    let values = (0..points).map(|_| number(from).map(f64::from_bits)).collect::<io::Result<Vec<f64>>>()?;
+    let numbers = (0..NUMBERS).map(|_| read_number(from)).collect::<io::Result<Vec<u64>>>()?;
+    let points = read_number(from)?;
+    let values = (0..points).map(|_| read_number(from).map(f64::from_bits)).collect::<io::Result<Vec<f64>>>()?;
     let mut presence = vec![0; points as usize];
     from.read_exact(&mut presence)?;
     Ok(Told { numbers, values, presence })
@@ -47,8 +42,8 @@ fn field(from: &mut impl Read) -> io::Result<Told> {
 
 /// The fields of a file, or ecCodes' error.
 fn fields(from: &mut impl Read) -> io::Result<Result<Vec<Told>, u64>> {
-    match number(from)? {
-        NONE => Ok(Err(number(from)?)),
+    match read_number(from)? {
+        NONE => Ok(Err(read_number(from)?)),
         count => (0..count).map(|_| field(from)).collect::<io::Result<Vec<Told>>>().map(Ok),
     }
 }
@@ -70,7 +65,7 @@ fn numbers_of(described: &Description) -> Vec<u64> {
     numbers
 }
 
-/// What is left out of the comparison of a field.
+/// What is left out of the comparison of a field, and under which names.
 #[derive(Default)]
 struct LeftOut {
     names: Vec<&'static str>,
@@ -100,7 +95,7 @@ fn left_out(described: &Description, before: Option<u8>) -> LeftOut {
         found.values = true;
     }
     if (9..=11).contains(&described.d) {
-        found.names.push("D 9, 10 or 11: its 10^D is rounded more than once, and its values are within 2^-50");
+        found.names.push("D 9, 10 or 11: its values are within 2^-50, and not all within 2^-51");
         found.doubled = true;
     }
     if described.grid.di == ALL_ONES || described.grid.dj == ALL_ONES {
@@ -148,21 +143,23 @@ fn differences(told: &Told, file: &[u8], k: u64, described: &Description, left_o
     (found, !known.is_empty() || (left_out.presence && presence_differs) || (left_out.values && values_differ) || strictly)
 }
 
-/// What was compared so far; by name, how many fields a known difference concerns, and in how many it shows.
+/// What was compared so far; by name, how many fields a known difference concerns, how many of them it alone concerns, and in how many of these it
+/// shows.
 #[derive(Default)]
 struct Tally {
     files: u64,
     fields: u64,
     points: u64,
     wrong: u64,
-    known: BTreeMap<&'static str, (u64, u64)>,
+    known: BTreeMap<&'static str, (u64, u64, u64)>,
 }
 
 impl Tally {
-    fn know(&mut self, name: &'static str, shows: bool) {
-        let entry = self.known.entry(name).or_insert((0, 0));
+    fn know(&mut self, name: &'static str, alone: bool, shows: bool) {
+        let entry = self.known.entry(name).or_insert((0, 0, 0));
         entry.0 += 1;
-        entry.1 += u64::from(shows);
+        entry.1 += u64::from(alone);
+        entry.2 += u64::from(alone && shows);
     }
 
     fn differs(&mut self, what: String) {
@@ -196,7 +193,7 @@ fn compare(file: &[u8], told: Result<Vec<Told>, u64>, name: &str, tally: &mut Ta
     let expected = described(file);
     tally.files += 1;
     if expected.iter().any(|(description, _)| description.first_surface_type == SURFACE_WITH_MORE) {
-        tally.know("a file with first surface 150: it looks for octets behind section 4's end", told.is_err());
+        tally.know("a file with first surface 150: it looks for octets behind section 4's end", true, told.is_err());
         return;
     }
     let told = match told {
@@ -209,7 +206,7 @@ fn compare(file: &[u8], told: Result<Vec<Told>, u64>, name: &str, tally: &mut Ta
         let (found, shows) = differences(told, file, k, description, &left_out);
         tally.fields += 1;
         tally.points += told.values.len() as u64;
-        left_out.names.iter().for_each(|known| tally.know(known, shows));
+        left_out.names.iter().for_each(|known| tally.know(known, left_out.names.len() == 1, shows));
         if !found.is_empty() {
             tally.differs(format!("{}, field {}: {}", name, k, found.join("; ")));
         }
@@ -230,8 +227,8 @@ pub fn eccodes(seed: u64, count: u64, command: &[String]) -> io::Result<bool> {
     }
     let written = writing.join().expect("the writing thread");
     let ended = process.wait()?;
-    for (name, (concerned, shown)) in &tally.known {
-        println!("  known: {}: {} times, seen to differ in {}", name, concerned, shown);
+    for (name, (concerned, alone, shown)) in &tally.known {
+        println!("  known: {}: {} times, {} of them alone, and in {} of these it shows", name, concerned, alone, shown);
     }
     println!("seed {}: {} valid files, {} fields, {} points against ecCodes, {} differ otherwise", seed, tally.files, tally.fields, tally.points, tally.wrong);
     Ok(written.is_ok() && ended.success() && tally.wrong == 0 && tally.fields > 0)

@@ -1,6 +1,7 @@
 //! The programs that read standard input: `listing`, and `ask`, which rebuilds doubles.
 use crate::damage::damaged;
 use crate::files::{small_bases, valid};
+use crate::make::Signed;
 use crate::random::Random;
 use std::io::{self, Write};
 use std::process::{Command, Stdio};
@@ -70,12 +71,6 @@ pub fn listing(seed: u64, count: u64, command: &[String]) -> io::Result<bool> {
     Ok(wrong == 0)
 }
 
-/// A number in so many octets, the sign in the top bit and the size in the rest. Zero may be given a sign.
-fn sign_and_size(value: i64, octets: usize, minus_zero: bool) -> Vec<u8> {
-    let sign = u64::from(value < 0 || value == 0 && minus_zero) << (8 * octets - 1);
-    (sign | value.unsigned_abs()).to_be_bytes()[8 - octets..].to_vec()
-}
-
 pub struct Rebuild {
     r: u32,
     e: i64,
@@ -103,11 +98,9 @@ pub fn random_rebuild(random: &mut Random) -> Rebuild {
 
 /// The question as `ask` reads it, and the line that it has to print.
 pub fn record(question: &Rebuild, minus_zero: bool) -> (Vec<u8>, String) {
-    let mut octets = vec![1];
-    octets.extend(question.r.to_be_bytes());
-    octets.extend(sign_and_size(question.e, 2, minus_zero));
-    octets.extend(sign_and_size(question.d, 2, minus_zero));
-    octets.extend(sign_and_size(question.x, 8, minus_zero));
+    let signed = |value: i64| if value == 0 && minus_zero { Signed::MINUS_ZERO } else { value.into() };
+    let mut octets = [&[1], &question.r.to_be_bytes()[..]].concat();
+    octets.extend([signed(question.e).octets(2), signed(question.d).octets(2), signed(question.x).octets(8)].concat());
     octets.resize(RECORD, 0);
     let line = match reference::rebuild(question.r, question.e, question.d, question.x) {
         Ok(double) => format!("double {:016x}", double.to_bits()),

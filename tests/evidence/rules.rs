@@ -1,10 +1,10 @@
 //! Files on either side of each rule, each with what document 01 says of it in words. They are made and judged by hand in the tests in Python, and
 //! come here as a file, so that the independent decoder is held to them too.
-use crate::answers::Answer;
+use crate::answers::{read_number, Answer};
 use crate::answers_of;
 use crate::cases::{Case, Question};
 use std::fs;
-use std::io;
+use std::io::{self, Read};
 use std::rc::Rc;
 
 /// What is told of a question that is answered, where the answer is not told.
@@ -21,27 +21,21 @@ pub struct Rule {
     file: Rc<Vec<u8>>,
 }
 
-fn number(octets: &mut &[u8]) -> Option<u64> {
-    let (first, rest) = (octets.get(..8)?, octets.get(8..)?);
-    *octets = rest;
-    Some(first.iter().fold(0, |number, octet| number << 8 | u64::from(*octet)))
-}
-
 fn decode(k: u64) -> Question {
     Question::Decode { k, start: 1, values_length: ROOM, presence_length: ROOM + 1 }
 }
 
 /// The next rule: the kind of its question, k, what is told, and its file with its length before it.
-fn rule(octets: &mut &[u8]) -> Option<Rule> {
-    let (kind, k, told, length) = (number(octets)?, number(octets)?, number(octets)?, number(octets)? as usize);
+fn rule(from: &mut impl Read) -> io::Result<Rule> {
+    let (kind, k, told, length) = (read_number(from)?, read_number(from)?, read_number(from)?, read_number(from)?);
     let question = match kind {
         CHECK => Question::Check,
         DESCRIBE => Question::Describe { k },
         _ => decode(k),
     };
-    let file = Rc::new(octets.get(..length)?.to_vec());
-    *octets = &octets[length..];
-    Some(Rule { question, told, file })
+    let mut file = vec![0; length as usize];
+    from.read_exact(&mut file)?;
+    Ok(Rule { question, told, file: Rc::new(file) })
 }
 
 pub fn read(path: &str) -> io::Result<Vec<Rule>> {
@@ -49,7 +43,7 @@ pub fn read(path: &str) -> io::Result<Vec<Rule>> {
     let mut rest = &octets[..];
     let mut found = Vec::new();
     while !rest.is_empty() {
-        found.push(rule(&mut rest).ok_or_else(|| io::Error::new(io::ErrorKind::InvalidData, "the file of rules is cut"))?);
+        found.push(rule(&mut rest)?);
     }
     Ok(found)
 }
