@@ -6,6 +6,7 @@ use Rattle.fields.proofs as fields
 use Rattle.decoding.proofs as decoding
 use Rattle.skeptolyr.proofs as skeptolyr
 use Rattle.tell.proofs as tell
+use Rattle.lines.proofs as lines
 
 -- What is described, and where a point is placed.
 pub fields-describe : Determined fields.describe.ended (λ _. fields.describe.clauses)
@@ -33,3 +34,10 @@ tell-tell-describe _ 𝓤 _ _ _ _ _ _ _ _ _ _ _ _ = two 𝓤 (λ p q. (alike (p 
 
 pub tell-tell-place : Determined tell.tell_place.ended (λ _. tell.tell_place.clauses)
 tell-tell-place _ 𝓤 _ _ _ _ _ _ _ _ _ _ _ _ = two 𝓤 (λ p q. (alike (p .0) (q .0), λ i. (tt, (tt, (tt, (alike (p .1) (q .1) i, tt))))))
+
+-- What a line says, put into a lent run: where it ends, and what the run holds afterwards.
+pub lines-put-refusal : Determined lines.put_refusal.ended (λ _. lines.put_refusal.clauses)
+lines-put-refusal _ 𝓤 _ _ _ _ _ _ _ _ _ _ _ _ = one 𝓤 (λ p q. (alike (p .1) (q .1), λ i. (alike (p .0) (q .0) i, (tt, (tt, tt)))))
+
+pub lines-put-field : Determined lines.put_field.ended (λ _. lines.put_field.clauses)
+lines-put-field _ 𝓤 _ _ _ _ _ _ _ _ _ _ _ _ = one 𝓤 (λ p q. (alike (p .1) (q .1), λ i. (alike (p .0) (q .0) i, (tt, (tt, tt)))))

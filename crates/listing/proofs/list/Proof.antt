@@ -9,7 +9,8 @@ use Rattle.tiling.specs.Tiling.{check}
 use Rattle.text.specs.Text.{ascii, decimal}
 use Rattle.text.proofs.Laws.{decimal-short}
 use Rattle.listing.specs.Listing.{countText, linesOf, most}
-use Rattle.listing.proofs.Laws.{Told, told-none, told-then, told-room, lines-short, few-fields, listing-too-long, listing-taken, listing-refused}
+use Rattle.lines.proofs.Laws.{Told, told-none, told-then, told-room}
+use Rattle.listing.proofs.Laws.{lines-short, few-fields, listing-too-long, listing-taken, listing-refused}
 use Rattle.listing.proofs.list.Statement.{statement}
 use Rattle.listing.proofs.list.Tie as tie
 

@@ -9,7 +9,8 @@ use Rattle.fields.specs.Fields.{describe}
 use Rattle.text.specs.Text.{ascii, decimal}
 use Rattle.text.proofs.Laws.{decimal-short}
 use Rattle.listing.specs.Listing.{answerText, lineOf}
-use Rattle.listing.proofs.Laws.{Told, told-none, told-then, told-room, told-length, answer-short}
+use Rattle.lines.proofs.Laws.{Told, told-none, told-then, told-room, told-length}
+use Rattle.listing.proofs.Laws.{answer-short}
 use Rattle.listing.proofs.put_line.Statement.{statement}
 use Rattle.listing.proofs.put_line.Tie as tie
 

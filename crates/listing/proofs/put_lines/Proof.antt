@@ -8,7 +8,8 @@ use borrow.Author.Needs.{needs}
 use Rattle.text.specs.Text.{Puts}
 use Rattle.text.proofs.Laws.{puts-none}
 use Rattle.listing.specs.Listing.{lineOf, linesOf}
-use Rattle.listing.proofs.Laws.{Told, told-then, told-room, told-length, line-short, lines-short}
+use Rattle.lines.proofs.Laws.{Told, told-then, told-room, told-length}
+use Rattle.listing.proofs.Laws.{line-short, lines-short}
 use Rattle.listing.proofs.put_lines.Statement.{statement}
 use Rattle.listing.proofs.put_lines.Tie as tie
 

@@ -4,8 +4,8 @@ use Prim.Native.Nat.{ℕ}
 use native.Mathlib.Omega.{arith}
 use borrow.Author.Needs.{needs}
 use Rattle.text.specs.Text.{ascii}
-use Rattle.listing.specs.Listing.{refusalText}
-use Rattle.listing.proofs.Laws.{Told, told-none, told-then, told-room, refusal-short}
+use Rattle.lines.specs.Lines.{refusalText}
+use Rattle.lines.proofs.Laws.{Told, told-none, told-then, told-room, refusal-short}
 use Rattle.listing.proofs.put_refused.Statement.{statement}
 use Rattle.listing.proofs.put_refused.Tie as tie
 

@@ -1,4 +1,4 @@
--- `listing::put_refusal` meets its contract: its four pieces are put one behind the other, and there is room for each of them.
+-- `lines::put_refusal` meets its contract: its four pieces are put one behind the other, and there is room for each of them.
 use mathlib.Core.List.{List, _++_}
 use Prim.Native.Nat.{ℕ}
 use native.Mathlib.Omega.{arith}
@@ -6,9 +6,9 @@ use borrow.Author.Needs.{needs}
 use Rattle.refusals.specs.Refusals.{numberOf}
 use Rattle.text.specs.Text.{ascii, decimal}
 use Rattle.text.proofs.Laws.{decimal-short}
-use Rattle.listing.proofs.Laws.{Told, told-none, told-then, told-room}
-use Rattle.listing.proofs.put_refusal.Statement.{statement}
-use Rattle.listing.proofs.put_refusal.Tie as tie
+use Rattle.lines.proofs.Laws.{Told, told-none, told-then, told-room}
+use Rattle.lines.proofs.put_refusal.Statement.{statement}
+use Rattle.lines.proofs.put_refusal.Tie as tie
 
 -- The text up to its first piece, up to its second one and so on.
 abbrev text-1 : tie.Start → List ℕ

@@ -1,4 +1,4 @@
--- `listing::put_field` meets its contract: its nine pieces are put one behind the other, and there is room for each of them.
+-- `lines::put_field` meets its contract: its nine pieces are put one behind the other, and there is room for each of them.
 use mathlib.Core.Path.{ap, _∙_}
 use mathlib.Core.List.{List, _++_}
 use Prim.Native.Nat.{ℕ}
@@ -9,10 +9,10 @@ use borrow.Author.Needs.{needs}
 use Rattle.calendar.specs.Calendar.{digitsOf}
 use Rattle.text.specs.Text.{ascii, decimal}
 use Rattle.text.proofs.Laws.{decimal-short}
-use Rattle.listing.specs.Listing.{subjectText, sizeText, listedTime}
-use Rattle.listing.proofs.Laws.{Told, told-none, told-then, told-room, told-length, subject-short, size-short}
-use Rattle.listing.proofs.put_field.Statement.{statement}
-use Rattle.listing.proofs.put_field.Tie as tie
+use Rattle.lines.specs.Lines.{subjectText, sizeText, listedTime}
+use Rattle.lines.proofs.Laws.{Told, told-none, told-then, told-room, told-length, subject-short, size-short}
+use Rattle.lines.proofs.put_field.Statement.{statement}
+use Rattle.lines.proofs.put_field.Tie as tie
 
 -- The text up to its first piece, up to its second one and so on.
 abbrev text-1 : tie.Start → List ℕ

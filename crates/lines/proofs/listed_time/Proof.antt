@@ -1,7 +1,7 @@
--- `listing::listed_time` meets its contract: the product tells which time is listed.
+-- `lines::listed_time` meets its contract: the product tells which time is listed.
 use borrow.Author.Needs.{needs}
-use Rattle.listing.proofs.listed_time.Statement.{statement}
-use Rattle.listing.proofs.listed_time.Tie as tie
+use Rattle.lines.proofs.listed_time.Statement.{statement}
+use Rattle.lines.proofs.listed_time.Tie as tie
 
 enum-told : tie.Need-enum-told
 enum-told c = search needs

@@ -1,4 +1,4 @@
--- `listing::put_subject` meets its contract: its five pieces are put one behind the other, and there is room for each of them.
+-- `lines::put_subject` meets its contract: its five pieces are put one behind the other, and there is room for each of them.
 use mathlib.Core.List.{List, _++_}
 use Prim.Native.Nat.{ℕ}
 use native.Mathlib.Omega.{arith}
@@ -6,9 +6,9 @@ use mir.Facts.{fits-widen}
 use borrow.Author.Needs.{needs}
 use Rattle.text.specs.Text.{ascii, decimal}
 use Rattle.text.proofs.Laws.{decimal-short}
-use Rattle.listing.proofs.Laws.{Told, told-none, told-then, told-room, told-length}
-use Rattle.listing.proofs.put_subject.Statement.{statement}
-use Rattle.listing.proofs.put_subject.Tie as tie
+use Rattle.lines.proofs.Laws.{Told, told-none, told-then, told-room, told-length}
+use Rattle.lines.proofs.put_subject.Statement.{statement}
+use Rattle.lines.proofs.put_subject.Tie as tie
 
 -- The text up to its first piece, up to its second one and so on.
 abbrev text-1 : tie.Start → List ℕ

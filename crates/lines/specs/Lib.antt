@@ -1,0 +1,2 @@
+-- What a line of the listing says.
+pub mod Lines
