@@ -1,0 +1,106 @@
+#!/usr/bin/env python3
+"""The samples, as people meet them: made as the script makes them, told of as they are, and drawn or refused by the example program draw with the
+number, the place and the sentence that belong there. It ends in 'N passed, M failed'.
+"""
+import os
+import re
+import subprocess
+import sys
+import tempfile
+
+import archive
+import header
+import reading
+
+TOP = archive.TOP
+SAMPLES = os.path.join(TOP, 'samples')
+sys.path.insert(0, SAMPLES)
+import make  # noqa: E402
+
+
+def are_as_made():
+    """The files beside the script are those that it makes, and there is no other."""
+    faults = []
+    for name, octets in make.samples().items():
+        with open(os.path.join(SAMPLES, name), 'rb') as sample:
+            faults += [name] if sample.read() != octets else []
+    kept = [os.path.relpath(os.path.join(folder, name), SAMPLES) for folder, _, names in os.walk(SAMPLES) for name in names if name.endswith('.grib2')]
+    return header.is_said('the samples are as the script makes them; if not, run samples/make.py', faults + sorted(set(kept) ^ set(make.samples())))
+
+
+def are_told_of():
+    """samples/README.md has the row of each refusal, and names each file."""
+    text = header.text_of(os.path.join(SAMPLES, 'README.md'))
+    rows = re.findall(r'^\| \d+ .*$', text, re.M)
+    return header.is_said("the samples' table", [row for row in make.table() if row not in rows] + ['%d rows' % len(rows)] * (len(rows) != 16) + [name for name in make.samples() if '](%s)' % name not in text])
+
+
+def are_read_as_told():
+    """Refusals 1 to 16 are there, each once, and the independent reading gives each."""
+    faults = [] if [refusal.number for refusal in make.REFUSALS] == list(range(1, 17)) else ['not each of 1 to 16']
+    for refusal in make.REFUSALS:
+        file = bytes(make.TOO_LONG) if refusal.number == 1 else make.samples()[refusal.file]
+        room = refusal.room or 1 << 24
+        try:
+            reading.decode(file, refusal.field, 0, room, room)
+            faults.append('%s is not refused' % refusal.file)
+        except reading.Refused as refused:
+            faults += ['%s: %s' % (refusal.file, refused)] if (refused.number, refused.place) != (refusal.number, refusal.place) else []
+    return header.is_said('the samples in the independent reading', faults)
+
+
+# ---- the example programs
+
+def run(*command):
+    """What a program prints on both ways out, and its status."""
+    done = subprocess.run(command, stdout=subprocess.PIPE, stderr=subprocess.PIPE, text=True)
+    return done.returncode, done.stdout, done.stderr
+
+
+def is_refused(draw, refusal, folder):
+    """The program draw says the refusal's number, place and sentence on the way out for errors, ends with 1, and leaves no picture."""
+    path, picture = os.path.join(SAMPLES, refusal.file), os.path.join(folder, 'picture.png')
+    if refusal.number == 1:
+        path = os.path.join(folder, refusal.file)
+        with open(path, 'wb') as file:
+            file.truncate(make.TOO_LONG)
+    words = ['-f', str(refusal.field)] + (['-r', str(refusal.room)] if refusal.room else [])
+    status, out, said = run(*draw, *words, path, picture)
+    wanted = 'draw: %s: %s' % (path, header.refused(refusal.number, refusal.place))
+    faults = ['it ended with %d' % status] * (status != 1) + ['it said: %s%s' % (out, said)] * (out != '' or said.split('\n')[0] != wanted) + ['it left a picture'] * os.path.exists(picture)
+    return header.is_said('refusal %d at %d, %s' % (refusal.number, refusal.place, refusal.what), faults)
+
+
+def are_drawn(draw, folder):
+    """The samples that are not refused are drawn, each field of them."""
+    faults = []
+    for name, field in (('two-fields.grib2', '0'), ('two-fields.grib2', '1'), ('islands.grib2', '0')):
+        status, _, said = run(*draw, '-f', field, os.path.join(SAMPLES, name), os.path.join(folder, name + field))
+        faults += ['%s, field %s: %d %s' % (name, field, status, said)] * (status != 0 or said != '' or not os.path.exists(os.path.join(folder, name + field)))
+    return header.is_said('the samples that are drawn', faults)
+
+
+def are_printed():
+    """The program numbers prints a field's values, and says why it does not."""
+    numbers = archive.program('skeptolyr', 'examples/numbers.c')
+    two = os.path.join(SAMPLES, 'two-fields.grib2')
+    wanted = [
+        ((two, '0'), (0, '0 291\n1 missing\n2 2748\n3 missing\n', '')), ((two, '1'), (0, '0 0.5\n1 missing\n2 0.7\n3 missing\n', '')),
+        ((two, '2'), (1, '', header.refused(8, 0) + '\n')), ((os.path.join(SAMPLES, 'accident.grib2'), '0'), (1, '', header.refused(7, 0) + '\n'))]
+    faults = ['%s: %s' % (words[1], run(*numbers, *words)) for words, want in wanted if run(*numbers, *words) != want]
+    faults += ['%s: no usage' % (words,) for words in ((two,), (two, 'first'), ('no such file', '0'), (SAMPLES, '0')) if run(*numbers, *words)[:2] != (2, '')]
+    return header.is_said('the program numbers', faults)
+
+
+def main():
+    draw = archive.program('skeptolyr', 'examples/draw.c')
+    results = [are_as_made(), are_told_of(), are_read_as_told(), are_printed()]
+    with tempfile.TemporaryDirectory() as folder:
+        results.append(are_drawn(draw, folder))
+        results += [is_refused(draw, refusal, folder) for refusal in make.REFUSALS]
+    print('%d passed, %d failed' % (sum(results), len(results) - sum(results)))
+    return 0 if all(results) else 1
+
+
+if __name__ == '__main__':
+    sys.exit(main())
