@@ -1,11 +1,11 @@
 # The targets for daily work. `tools/test` and `tools/sample` need no make.
 .DEFAULT_GOAL := help
-.PHONY: help sample test soak bench peers fuzz check lib dev fmt house believed clean
+.PHONY: help sample test soak bench peers fuzz check lib examples picture build install uninstall dev fmt house believed clean
 
 help: ## List the targets.
-	@awk -F ':.*## ' '/^[a-z]+:.*## / { printf "  make %-8s %s\n", $$1, $$2 }' $(MAKEFILE_LIST)
+	@awk -F ':.*## ' '/^[a-z]+:.*## / { printf "  make %-9s %s\n", $$1, $$2 }' $(MAKEFILE_LIST)
 
-sample: ## Check and list the sample files, and ask the worked examples of the proved leaf layers.
+sample: ## Prove the reader, build the example programs, and run them on samples.
 	@tools/sample
 
 test: ## Prove every crate, try every must-fail edit, and run every other test: the gate.
@@ -27,7 +27,22 @@ check: ## Prove what has changed, and run the programs.
 	rt check
 
 lib: ## Prove and write target/staticlib/libskeptolyr.a, which C links with include/skeptolyr.h.
-	rt staticlib skeptolyr
+	@python3 tools/built.py library skeptolyr
+
+examples: ## Prove the reader, and compile the example programs over it, target/numbers and target/draw.
+	@python3 tests/archive.py examples/numbers.c examples/draw.c
+
+picture: ## Draw the picture of the README anew.
+	@python3 tests/readme.py --picture
+
+build: ## Prove and build what make install installs, for those who will install as root.
+	@tools/install build
+
+install: ## Prove, build and install the library, its manual and two programs: make install PREFIX=/usr/local. DESTDIR is honoured.
+	@tools/install install
+
+uninstall: ## Remove what make install has put under the same PREFIX and DESTDIR.
+	@tools/install uninstall
 
 dev: ## Check one crate in seconds, past its holes: make dev CRATE=bits.
 	rt dev $(CRATE) --allow-holes

@@ -5,9 +5,8 @@ The program `ask` answers questions about doubles, bits and times. This script m
 own way (whole numbers and fractions, Python's calendar), and compares. What it shows is that the definitions, which the code is proved to
 meet, are the ones that the world uses.
 
-  leaves.py            compare, and end in 'N passed, M failed'
-  leaves.py --sample   ask the worked examples, and print question and answer
-  leaves.py --write    write the worked examples as the program's own sample, crates/ask/stdin and stdout
+  leaves.py           compare, and end in 'N passed, M failed'
+  leaves.py --write   write the worked examples as the program's own sample, crates/ask/stdin and stdout
 """
 import datetime
 import os
@@ -225,17 +224,14 @@ def main():
         print('proving and compiling the program ask', file=sys.stderr, flush=True)
         subprocess.run(['rt', 'check', 'ask'], cwd=TOP, check=True, stdout=subprocess.DEVNULL)
     program = [os.path.join(TOP, 'tools', 'program'), 'ask']
-    shown = ['%-52s %s' % (words, answer) for (words, _, _), answer in zip(examples, answers(program, [record for _, record, _ in examples]))]
-    if '--sample' in sys.argv:
-        print('\n'.join(shown))
-        return 0
     results = []
     with open(os.path.join(ask, 'stdin'), 'rb') as given, open(os.path.join(ask, 'stdout'), 'rb') as wanted:
         results.append(given.read() == sample and wanted.read() == expected)
     print('the sample of the program ask: %s' % ('as made here' if results[0] else 'not as made here; run leaves.py --write'))
-    with open(os.path.join(TOP, 'README.md'), encoding='utf-8') as readme:
-        results.append('\n'.join(shown) in readme.read())
-    print('the README: %s' % ('shows what the sample prints' if results[1] else 'does not show what the sample prints'))
+    got = answers(program, [record for _, record, _ in examples])
+    wrong = ['  %s: %s, and not %s' % (words, have, want) for (words, _, want), have in zip(examples, got) if have != want]
+    print('\n'.join(['worked examples: %d, %d answered otherwise' % (len(examples), len(wrong))] + wrong))
+    results.append(not wrong and len(got) == len(examples))
     makers = {'rebuild': random_rebuild, 'bits': random_bits, 'later': random_later, 'order': random_order}
     results += [compare(program, name, makers[name], count) for name, count in CASES.items()]
     print('%d passed, %d failed' % (sum(results), len(results) - sum(results)))
