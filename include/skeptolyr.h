@@ -48,10 +48,12 @@ extern "C" {
  * Takes    the file. It reads little more than the head of each message and of each section, so that a large file takes no longer than a small one
  *          with as many of them.
  * Answers  messages x 2^32 + fields, which skeptolyr_messages and skeptolyr_fields take apart; or a refusal from 1 to 7.
- * Never    accepts a file in which an octet belongs to no message, or a message that was cut or joined.
+ * Never    accepts a file in which an octet belongs to no message, a message that does not end in 7777 where its length says, or sections that do
+ *          not fill their message in the order of the standard.
  *
- * It does not look at what the sections say: a field of a file that is accepted can still be refused by skeptolyr_decode. And a file that was cut
- * between two messages is whole in itself: only the number of its messages can tell.
+ * It does not look at what the sections say: a field of a file that is accepted can still be refused by skeptolyr_decode. Two kinds of damage no
+ * reader can see: a file that was cut between two messages is whole in itself, and octets that were changed and still keep every rule are as good as
+ * others, since the format has no sum to tell.
  */
 uint64_t skeptolyr_check(const uint8_t *file, size_t file_len);
 

@@ -223,6 +223,16 @@ def evidence_is_counted():
             yield '%s: not there: %s' % (name, words)
 
 
+def version_is_told():
+    """The version of include/skeptolyr.h is the first that CHANGELOG.md tells of, and the README shows it."""
+    version = re.search(r'^#define SKEPTOLYR_VERSION "(\d+\.\d+\.\d+)"$', '\n'.join(lines_of('include/skeptolyr.h')), re.M)
+    told = re.search(r'^## (\S+), \d{4}-\d\d-\d\d$', '\n'.join(lines_of('CHANGELOG.md')), re.M)
+    if not version or not told or version.group(1) != told.group(1):
+        yield 'CHANGELOG.md: %s for %s' % (told and told.group(1), version and version.group(1))
+    elif 'Skeptolyr %s ' % version.group(1) not in ' '.join(lines_of('README.md')):
+        yield 'README.md: not there: Skeptolyr %s' % version.group(1)
+
+
 def sample_is_the_sample():
     """The file of two fields that theorems compute with is samples/two-fields.grib2."""
     text = ' '.join(lines_of('crates/demands/specs/Sample.antt'))
@@ -251,7 +261,7 @@ def own_words():
                 yield '%s:%d' % (name, number)
 
 
-RULES = [crates_are_listed, lowest_first, sources_in_crates, layout, must_fail_edits, opening_comments, printed_places, unused_names, short_functions, nothing_asked_of_users, outcomes_are_determined, trust_is_counted, demands_name_what_is_there, evidence_is_counted, sample_is_the_sample, own_words]
+RULES = [crates_are_listed, lowest_first, sources_in_crates, layout, must_fail_edits, opening_comments, printed_places, unused_names, short_functions, nothing_asked_of_users, outcomes_are_determined, trust_is_counted, demands_name_what_is_there, evidence_is_counted, version_is_told, sample_is_the_sample, own_words]
 
 
 def main():

@@ -4,6 +4,7 @@ ghost use lib.ListN.{length};
 ghost use Rattle.text.specs.Text.{Puts};
 ghost use Rattle.listing.specs.Listing.{lineOf, linesOf, refusedLine, listingOf};
 use fields::Described;
+use libc::STDERR_FILENO;
 use libc::STDIN_FILENO;
 use libc::STDOUT_FILENO;
 use octets::FilePlace;
@@ -80,9 +81,19 @@ fn list(run: &mut [u8], input: &[u8]) -> usize
     }
 }
 
+// Can standard input be read where reading has stopped? At its end it can, and gives nothing.
+fn is_readable() -> bool {
+    let mut rest = [0u8; 1];
+    0 <= libc::read(STDIN_FILENO, &mut rest)
+}
+
 fn main() {
     let mut input = [0u8; 65537];
     let got = io::read_full(STDIN_FILENO, &mut input);
+    if !is_readable() {
+        io::write_all(STDERR_FILENO, b"listing: standard input cannot be read\n");
+        return;
+    }
     let mut text = [0u8; 655360];
     let length = list(&mut text, &input[..got]);
     io::write_all(STDOUT_FILENO, &text[..length]);

@@ -18,6 +18,18 @@ slice-aggregate-read-full c = search needs
 read-full-requires : tie.Need-read-full-requires
 read-full-requires c κs = search needs
 
+is-readable-requires : tie.Need-is-readable-requires
+is-readable-requires c κs = search needs
+
+slice-aggregate-write-all : tie.Need-slice-aggregate-write-all
+slice-aggregate-write-all c = search needs
+
+write-all-requires : tie.Need-write-all-requires
+write-all-requires c κs = search needs
+
+returns : tie.Need-returns
+returns c = search needs
+
 slice-aggregate-list : tie.Need-slice-aggregate-list
 slice-aggregate-list c = search needs
 
@@ -33,14 +45,14 @@ list-requires c κs = search needs
 array-share-prefix-text : tie.Need-array-share-prefix-text
 array-share-prefix-text c = inside (c .before)
 
-slice-aggregate-write-all : tie.Need-slice-aggregate-write-all
-slice-aggregate-write-all c = sym (length-take-le _ _ (inside (c .before .before)))
+slice-aggregate-write-all-2 : tie.Need-slice-aggregate-write-all-2
+slice-aggregate-write-all-2 c = sym (length-take-le _ _ (inside (c .before .before)))
 
-write-all-requires : tie.Need-write-all-requires
-write-all-requires c κs = search needs
+write-all-requires-2 : tie.Need-write-all-requires-2
+write-all-requires-2 c κs = search needs
 
-returns : tie.Need-returns
-returns c = search needs
+returns-2 : tie.Need-returns-2
+returns-2 c = search needs
 
 pub main-spec : {M : Type 1} → statement M
 main-spec =
@@ -48,11 +60,15 @@ main-spec =
     (tie.spec
     slice-aggregate-read-full
     read-full-requires
+    is-readable-requires
+    slice-aggregate-write-all
+    write-all-requires
+    returns
     slice-aggregate-list
     array-share-prefix-input
     slice-aggregate-list-2
     list-requires
     array-share-prefix-text
-    slice-aggregate-write-all
-    write-all-requires
-    returns)
+    slice-aggregate-write-all-2
+    write-all-requires-2
+    returns-2)
