@@ -406,8 +406,21 @@ def screen(sent):
     return lines
 
 
+def has_terminals():
+    """Can a pseudo terminal be had? A machine without a file system for them has none."""
+    try:
+        for end in pty.openpty():
+            os.close(end)
+    except OSError:
+        return False
+    return True
+
+
 def progress(draw):
     """On a terminal it shows what it is doing on one line, and clears it; a refusal stands there alone."""
+    if not has_terminals():
+        print('SKIPPED: this machine has no pseudo terminals, so what is shown on one was not tried')
+        return
     draw.put(EXAMPLE)
     refused = draw.run('-f', '2', FILE, PICTURE).stderr
     status, sent, _ = on_a_terminal(draw, '-f', '2', FILE, PICTURE)
