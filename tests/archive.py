@@ -12,6 +12,7 @@ import sys
 TOP = os.path.dirname(os.path.dirname(os.path.abspath(__file__)))
 sys.path.append(os.path.join(TOP, 'tools'))
 import built  # noqa: E402
+import module  # noqa: E402
 
 # What every program of ours in C is compiled with.
 FLAGS = ['-std=c99', '-D_DEFAULT_SOURCE', '-Wall', '-Wextra', '-pedantic', '-Werror', '-I' + os.path.join(TOP, 'include')]
@@ -25,10 +26,7 @@ def compiler(name='gcc'):
 
 def command(program):
     """The command that runs a program of x86-64 code. On another processor it has to be linked with -static."""
-    if NATIVE:
-        return [program]
-    kit = os.path.dirname(os.path.dirname(subprocess.run(['rt', 'doc'], capture_output=True, text=True, check=True).stdout.strip()))
-    return [os.path.join(kit, 'on', platform.machine(), 'toolchain', 'bin', 'qemu-x86_64'), program]
+    return [program] if NATIVE else [module.tool('qemu-x86_64'), program]
 
 
 def write_script(path, program):

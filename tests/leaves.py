@@ -15,7 +15,8 @@ import subprocess
 import sys
 from fractions import Fraction
 
-TOP = os.path.dirname(os.path.dirname(os.path.abspath(__file__)))
+from archive import TOP, built
+
 RECORD = 32
 RECORDS_A_RUN = 65536 // RECORD
 SEED = int(os.environ.get('SEED', '20170515'))
@@ -220,9 +221,7 @@ def main():
             with open(os.path.join(ask, name), 'wb') as out:
                 out.write(text)
         return 0
-    if not os.path.exists(os.path.join(TOP, 'target', 'bin', 'ask')):
-        print('proving and compiling the program ask', file=sys.stderr, flush=True)
-        subprocess.run(['rt', 'check', 'ask'], cwd=TOP, check=True, stdout=subprocess.DEVNULL)
+    built.program('ask')
     program = [os.path.join(TOP, 'tools', 'program'), 'ask']
     results = []
     with open(os.path.join(ask, 'stdin'), 'rb') as given, open(os.path.join(ask, 'stdout'), 'rb') as wanted:

@@ -17,29 +17,31 @@ SAMPLES = os.path.join(TOP, 'samples')
 sys.path.insert(0, SAMPLES)
 import make  # noqa: E402
 
+MADE = make.samples()
+
 
 def are_as_made():
     """The files beside the script are those that it makes, and there is no other."""
     faults = []
-    for name, octets in make.samples().items():
+    for name, octets in MADE.items():
         with open(os.path.join(SAMPLES, name), 'rb') as sample:
             faults += [name] if sample.read() != octets else []
     kept = [os.path.relpath(os.path.join(folder, name), SAMPLES) for folder, _, names in os.walk(SAMPLES) for name in names if name.endswith('.grib2')]
-    return header.is_said('the samples are as the script makes them; if not, run samples/make.py', faults + sorted(set(kept) ^ set(make.samples())))
+    return header.is_said('the samples are as the script makes them; if not, run samples/make.py', faults + sorted(set(kept) ^ set(MADE)))
 
 
 def are_told_of():
     """samples/README.md has the row of each refusal, and names each file."""
     text = header.text_of(os.path.join(SAMPLES, 'README.md'))
     rows = re.findall(r'^\| \d+ .*$', text, re.M)
-    return header.is_said("the samples' table", [row for row in make.table() if row not in rows] + ['%d rows' % len(rows)] * (len(rows) != 16) + [name for name in make.samples() if '](%s)' % name not in text])
+    return header.is_said("the samples' table", [row for row in make.table() if row not in rows] + ['%d rows' % len(rows)] * (len(rows) != 16) + [name for name in MADE if '](%s)' % name not in text])
 
 
 def are_read_as_told():
     """Refusals 1 to 16 are there, each once, and the independent reading gives each."""
     faults = [] if [refusal.number for refusal in make.REFUSALS] == list(range(1, 17)) else ['not each of 1 to 16']
     for refusal in make.REFUSALS:
-        file = bytes(make.TOO_LONG) if refusal.number == 1 else make.samples()[refusal.file]
+        file = bytes(make.TOO_LONG) if refusal.number == 1 else MADE[refusal.file]
         room = refusal.room or 1 << 24
         try:
             reading.decode(file, refusal.field, 0, room, room)
