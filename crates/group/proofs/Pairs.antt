@@ -2,7 +2,7 @@
 use mathlib.Core.Path.{_≡_, refl, sym, ap, ap₂, _∙_, subst}
 use mathlib.Core.Bool.{true}
 use mathlib.Core.List.{List}
-use Prim.Native.Nat.{ℕ, zero, suc, _+_, _-_, _*_, _/_, _≤_, _<_}
+use Prim.Native.Nat.{ℕ, zero, suc, _+_, _-_, _*_, _/_, _%_, _≤_, _<_}
 use native.Mathlib.Nat.{add-zero, add-suc, add-mul, mul-le-mul, mul-le-mul-right}
 use native.Mathlib.Omega.{arith}
 use borrow.Author.Tests.{ltb-false}
@@ -27,6 +27,34 @@ fewer-bits from width all h inside = omega (arith, mul-le-mul-right width h)
 -- The pairs lie one behind the other.
 pub pair-more : (from k width at : ℕ) → at ≡ from + k * width → at + 2 * width ≡ from + (k + 2) * width
 pair-more from k width at e = omega (arith, add-mul k 2 width)
+
+-- A turn more, of those that are counted by pairs.
+pub turn-more : {done all : ℕ} → done < all → done + 1 ≤ all
+turn-more h = omega arith
+
+pub twice-more : (done : ℕ) → 2 * (done + 1) ≡ 2 * done + 2
+twice-more done = omega arith
+
+pub pair-room : (from done width : ℕ) {at : ℕ} → at ≤ from + done * 62 → width ≤ 28 → at + 2 * width ≤ from + (done + 1) * 62
+pair-room from done width h narrow = omega arith
+
+-- A turn more, of those that are counted by points: an even number of them lies behind the first, and two more are there.
+pub record Turned (first pairs size i at from width : ℕ) : Type 0 where
+  pub begun : first ≤ i + 2
+  pub inside : i + 2 ≤ first + 2 * pairs
+  pub even : (i + 2 - first) % 2 ≡ 0
+  pub room : at + 2 * width ≤ from + (i + 2 - first) * 31
+  pub later : i + 2 - first ≡ i - first + 2
+  pub last : i + 1 - first + 1 ≡ i - first + 2
+  pub two : i + 2 ≡ i + 1 + 1
+  pub one-left : i - first < 2 * pairs
+  pub two-left : i - first + 1 < 2 * pairs
+  pub here : i < size
+  pub there : i + 1 < size
+
+pub turned : (first pairs i from width : ℕ) {size at : ℕ} → first ≤ i → (i - first) % 2 ≡ 0 → at ≤ from + (i - first) * 31 → width ≤ 28 → i < first + 2 * pairs → first + 2 * pairs ≤ size →
+    Turned first pairs size i at from width
+turned first pairs i from width h even room narrow inside fits = omega arith
 
 -- The second of two numbers that were read gives the integer behind the next.
 module _ (run : List ℕ) (g : declared.Group) (w : declaredWorked.Worked) (k x at second next : ℕ) (kept : workedBy run g w (k + 1) ≡ Worked.Kept next x)

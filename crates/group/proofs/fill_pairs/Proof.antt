@@ -11,7 +11,7 @@ use Rattle.group.specs.declared.Worked.the-variants as Worked
 use Rattle.group.specs.Group.{mostX, workedBy}
 use Rattle.group.proofs.Steps.{InRange}
 use Rattle.group.proofs.Turns.{groupOf, worked-read, read-in-range, own-remainder, WrittenAll, all-none, all-more}
-use Rattle.group.proofs.Pairs.{fewer-bits, pair-more, worked-second, second-in-range}
+use Rattle.group.proofs.Pairs.{fewer-bits, pair-more, Turned, turned, worked-second, second-in-range}
 use Rattle.group.proofs.fill_pairs.Statement.{statement}
 use Rattle.group.proofs.fill_pairs.Tie as tie
 
@@ -46,13 +46,24 @@ higher c = c .take-pair .result .second + Begun c .args .group .base + 2 * (up c
 abbrev deeper : tie.After-take-pair Inv-loop μ-loop → ℕ
 deeper c = c .before .before .loop .x + Begun c .args .group .lowered
 
+-- Both points of the turn are there.
+turn : (c : tie.After-take-pair Inv-loop μ-loop) →
+    let l = c .before .before .loop in
+    let a = Begun c .args in
+    Turned (a .reached .point) (a .pairs) (length (a .values .now)) (l .i) (l .at) (a .group .from .0) (a .group .width)
+turn c =
+    let l = c .before .before .loop in
+    let a = Begun c .args in
+    turned (a .reached .point) (a .pairs) (l .i) (a .group .from .0) (a .group .width) (l .inv .0) (l .inv .2) (l .inv .6) (Begun c .pre .0 .2) (c .before .loop-test .taken)
+    (Begun c .pre .1 .1 .1)
+
 -- The next integer is in its range, as all of the pairs' are.
 ranged : (c : tie.After-take-pair Inv-loop μ-loop) → InRange (c .before .before .loop .x) (up c) (down c)
 ranged c =
     let l = c .before .before .loop in
     let a = Begun c .args in
     read-in-range (a .section .now) (a .group) (Worked.Kept (a .reached .x) (a .reached .before)) (l .i - a .reached .point) (l .x) (l .before) (l .at)
-    (c .take-pair .result .first) (l .inv .9 (a .group .count)) (l .inv .5) (c .take-pair .ensures .0) (2 * a .pairs) (omega arith) (Begun c .pre .1 .0)
+    (c .take-pair .result .first) (l .inv .9 (a .group .count)) (l .inv .5) (c .take-pair .ensures .0) (2 * a .pairs) (turn c .one-left) (Begun c .pre .1 .0)
 
 -- It is kept.
 following : (c : tie.After-take-pair Inv-loop μ-loop) (count : ℕ) →
@@ -72,7 +83,7 @@ ranged-second c =
     let l = c .before .before .loop in
     let a = Begun c .args in
     second-in-range (a .section .now) (a .group) (Worked.Kept (a .reached .x) (a .reached .before)) (l .i - a .reached .point) (l .x) (l .at)
-    (c .take-pair .result .second) (up c - down c) (following c (a .group .count)) (l .inv .5) (c .take-pair .ensures .1) (2 * a .pairs) (omega arith) (Begun c .pre .1 .0)
+    (c .take-pair .result .second) (up c - down c) (following c (a .group .count)) (l .inv .5) (c .take-pair .ensures .1) (2 * a .pairs) (turn c .two-left) (Begun c .pre .1 .0)
 
 second : (c : tie.After-take-pair Inv-loop μ-loop) (count : ℕ) →
     let l = c .before .before .loop in
@@ -218,26 +229,22 @@ loop-again c =
     let latest = a .reached .x in
     let earlier = a .reached .before in
     let point = a .reached .point in
-    let later : l .i + 2 - point ≡ l .i - point + 2 = omega arith in
-    let last : l .i + 1 - point + 1 ≡ l .i - point + 2 = omega arith in
-    let two : l .i + 2 ≡ l .i + 1 + 1 = omega arith in
-    let here : l .i < length (a .values .now) = omega (arith, Begun t .pre .1 .1 .1) in
-    let there : l .i + 1 < length (a .values .now) = omega (arith, Begun t .pre .1 .1 .1) in (
-      omega arith,
-      omega arith,
-      omega arith,
+    let next = turn t in (
+      next .begun,
+      next .inside,
+      next .even,
       length-set (set (l .values) (l .i) (c .before .rebuild .result)) (l .i + 1) (c .rebuild2 .result) ∙ length-set (l .values) (l .i) (c .before .rebuild .result) ∙ l .inv .3,
       length-set (set (l .presence) (l .i) 1) (l .i + 1) 1 ∙ length-set (l .presence) (l .i) 1 ∙ l .inv .4,
-      rw later (pair-more (a .group .from .0) (l .i - point) (a .group .width) (l .at) (l .inv .5)),
-      omega arith,
+      rw (next .later) (pair-more (a .group .from .0) (l .i - point) (a .group .width) (l .at) (l .inv .5)),
+      next .room,
       ranged-second t .high,
       ranged t .high,
-      λ count. rw later (second t count),
+      λ count. rw (next .later) (second t count),
       λ count.
-          rw two (
+          rw (next .two) (
           all-more (a .section .now) (counting t count) latest earlier (a .packing)
-          (all-more (a .section .now) (counting t count) latest earlier (a .packing) (l .inv .10 count) here (following t count) (c .before .rebuild .ensures ∙ ap (rebuilt (a .packing)) (own-remainder (ranged t .high))))
-          there (ap (workedBy (a .section .now) (counting t count) (Worked.Kept latest earlier)) last ∙ second t count) (c .rebuild2 .ensures ∙ ap (rebuilt (a .packing)) (own-remainder (ranged-second t .high)))
+          (all-more (a .section .now) (counting t count) latest earlier (a .packing) (l .inv .10 count) (next .here) (following t count) (c .before .rebuild .ensures ∙ ap (rebuilt (a .packing)) (own-remainder (ranged t .high))))
+          (next .there) (ap (workedBy (a .section .now) (counting t count) (Worked.Kept latest earlier)) (next .last) ∙ second t count) (c .rebuild2 .ensures ∙ ap (rebuilt (a .packing)) (own-remainder (ranged-second t .high)))
           ),
     )
 

@@ -8,7 +8,7 @@ use Rattle.group.specs.declared.Worked.the-variants as Worked
 use Rattle.group.specs.Group.{mostX, judged, workedBy}
 use Rattle.group.proofs.Steps.{judged-kept, judged-low, judged-high, out-stays}
 use Rattle.group.proofs.Turns.{groupOf, worked-read}
-use Rattle.group.proofs.Pairs.{fewer-bits, pair-more, worked-second}
+use Rattle.group.proofs.Pairs.{fewer-bits, pair-more, turn-more, twice-more, pair-room, worked-second}
 use Rattle.group.proofs.judge_pairs.Statement.{statement}
 use Rattle.group.proofs.judge_pairs.Tie as tie
 
@@ -100,14 +100,14 @@ returns : tie.Need-returns Inv-loop μ-loop
 returns c =
     let t = c .before .before in
     let l = t .before .before .loop in
-    stopped t (2 * l .done + 1) (omega arith) (following t (t .before .before .before .before .args .group .count) ∙ judged-low (l .x) (up t) (down t) (omega arith))
+    stopped t (2 * l .done + 1) (omega arith) (following t (t .before .before .before .before .args .group .count) ∙ judged-low (l .x) (up t) (down t) (c .if1 .taken))
 
 returns-2 : tie.Need-returns-2 Inv-loop μ-loop
 returns-2 c =
     let t = c .before .before .before in
     let l = t .before .before .loop in
     stopped t (2 * l .done + 1) (omega arith)
-    (following t (t .before .before .before .before .args .group .count) ∙ judged-high (l .x) (up t) (down t) (omega arith) (omega arith))
+    (following t (t .before .before .before .before .args .group .count) ∙ judged-high (l .x) (up t) (down t) (c .before .if1 .left) (c .if2 .taken))
 
 cast-higher : tie.Need-cast-higher Inv-loop μ-loop
 cast-higher c = search needs
@@ -129,14 +129,16 @@ returns-3 c =
     let t = c .before .before .before .before .before in
     let l = t .before .before .loop in
     stopped t (2 * l .done + 2) (omega arith)
-    (second t (t .before .before .before .before .args .group .count) (omega arith) (omega arith) ∙ judged-low (up t - down t) (higher t) (deeper t) (omega arith))
+    (second t (t .before .before .before .before .args .group .count) (c .before .before .before .if1 .left) (c .before .before .if2 .left)
+    ∙ judged-low (up t - down t) (higher t) (deeper t) (c .if3 .taken))
 
 returns-4 : tie.Need-returns-4 Inv-loop μ-loop
 returns-4 c =
     let t = c .before .before .before .before .before .before in
     let l = t .before .before .loop in
     stopped t (2 * l .done + 2) (omega arith)
-    (second t (t .before .before .before .before .args .group .count) (omega arith) (omega arith) ∙ judged-high (up t - down t) (higher t) (deeper t) (omega arith) (omega arith))
+    (second t (t .before .before .before .before .args .group .count) (c .before .before .before .before .if1 .left) (c .before .before .before .if2 .left)
+    ∙ judged-high (up t - down t) (higher t) (deeper t) (c .before .if3 .left) (c .if4 .taken))
 
 cast-at : tie.Need-cast-at Inv-loop μ-loop
 cast-at c = search needs
@@ -158,13 +160,15 @@ loop-again c =
     let t = c .before .before .before .before .before .before in
     let l = t .before .before .loop in
     let g = t .before .before .before .before .args .group in
-    let later : 2 * (l .done + 1) ≡ 2 * l .done + 2 = omega arith in (
-      omega arith,
+    let low = c .before .before .before .before .if1 .left in
+    let high = c .before .before .before .if2 .left in
+    let later = twice-more (l .done) in (
+      turn-more (t .before .loop-test .taken),
       rw later (pair-more (g .from .0) (2 * l .done) (g .width) (l .at) (l .inv .1)),
-      omega arith,
-      omega arith,
-      omega arith,
-      λ count. rw later (second t count (omega arith) (omega arith) ∙ judged-kept (up t - down t) (higher t) (deeper t) (omega arith) (omega arith)),
+      pair-room (g .from .0) (l .done) (g .width) (l .inv .2) (t .before .before .before .before .pre .2),
+      c .if4 .left,
+      high,
+      λ count. rw later (second t count low high ∙ judged-kept (up t - down t) (higher t) (deeper t) (c .before .if3 .left) (c .if4 .left)),
     )
 
 returns-5 : tie.Need-returns-5 Inv-loop μ-loop
