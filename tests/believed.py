@@ -10,7 +10,7 @@ import sys
 TOP = os.path.dirname(os.path.dirname(os.path.abspath(__file__)))
 
 # The statements of the demands, the number that C is given, and the lines that the program prints.
-ROOTS = ['demands/Questions', 'demands/Demand1', 'demands/Demand2', 'demands/Demand3', 'demands/Rebuild', 'skeptolyr/Codes', 'listing/Listing', 'outcomes/Determined']
+ROOTS = ['demands/Questions', 'demands/Demand1', 'demands/Demand2', 'demands/Demand3', 'demands/Rebuild', 'skeptolyr/Codes', 'listed/Listing', 'outcomes/Determined']
 # What check, describe, place, decode and rebuild_one answer, and what decode leaves in the runs: demands 1, 2 and 3 say what they are.
 PINNED = {
     'tiling/Tiling': {'check'},

@@ -7,6 +7,7 @@ use Rattle.decoding.proofs as decoding
 use Rattle.skeptolyr.proofs as skeptolyr
 use Rattle.tell.proofs as tell
 use Rattle.lines.proofs as lines
+use Rattle.listed.proofs as listed
 
 -- What is described, and where a point is placed.
 pub fields-describe : Determined fields.describe.ended (λ _. fields.describe.clauses)
@@ -41,3 +42,7 @@ lines-put-refusal _ 𝓤 _ _ _ _ _ _ _ _ _ _ _ _ = one 𝓤 (λ p q. (alike (p .
 
 pub lines-put-field : Determined lines.put_field.ended (λ _. lines.put_field.clauses)
 lines-put-field _ 𝓤 _ _ _ _ _ _ _ _ _ _ _ _ = one 𝓤 (λ p q. (alike (p .1) (q .1), λ i. (alike (p .0) (q .0) i, (tt, (tt, tt)))))
+
+-- The whole listing, in the same way.
+pub listed-list : Determined listed.list.ended (λ _. listed.list.clauses)
+listed-list _ 𝓤 _ _ _ _ _ _ _ _ _ _ _ _ = one 𝓤 (λ p q. (alike (p .1) (q .1), λ i. (alike (p .0) (q .0) i, (tt, tt))))

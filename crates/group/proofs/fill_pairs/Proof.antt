@@ -1,7 +1,7 @@
 -- `group::fill_pairs` meets its contract. The invariant: the points from the first up to `i`, an even number of them, are written, `x` and `before` are
 -- the last two integers behind them, and `at` is the place of the next pair. It is said for every count, since no local of the loop holds the group's.
 use mathlib.Core.Path.{_≡_, refl, sym, ap, _∙_}
-use Prim.Native.Nat.{ℕ, _+_, _-_, _*_, _%_, _≤_, _<_}
+use Prim.Native.Nat.{ℕ, _+_, _-_, _*_, _%_, _≤_}
 use native.Mathlib.Omega.{arith}
 use borrow.Author.Needs.{needs}
 use lib.ListN.{length, set, length-set}

@@ -1,4 +1,4 @@
--- `listing::put_lines` meets its contract. The invariant: the lines of the first `k` fields are put. The measure is how many fields are left.
+-- `listed::put_lines` meets its contract. The invariant: the lines of the first `k` fields are put. The measure is how many fields are left.
 use mathlib.Core.Path.{_≡_, subst}
 use mathlib.Core.List.{List}
 use Prim.Native.Nat.{ℕ, _-_, _≤_}
@@ -7,11 +7,11 @@ use native.Mathlib.Omega.{arith}
 use borrow.Author.Needs.{needs}
 use Rattle.text.specs.Text.{Puts}
 use Rattle.text.proofs.Laws.{puts-none}
-use Rattle.listing.specs.Listing.{lineOf, linesOf}
+use Rattle.listed.specs.Listing.{lineOf, linesOf}
 use Rattle.lines.proofs.Laws.{Told, told-then, told-room, told-length}
-use Rattle.listing.proofs.Laws.{line-short, lines-short}
-use Rattle.listing.proofs.put_lines.Statement.{statement}
-use Rattle.listing.proofs.put_lines.Tie as tie
+use Rattle.listed.proofs.Laws.{line-short, lines-short}
+use Rattle.listed.proofs.put_lines.Statement.{statement}
+use Rattle.listed.proofs.put_lines.Tie as tie
 
 abbrev Inv-loop : tie.InvT-loop
 Inv-loop run₀ at file fields end₀ k₀ run end k = (k ≤ fields) × Puts run₀ at (linesOf file k) run end

@@ -1,4 +1,4 @@
--- `listing::put_refused` meets its contract: the refusal is put, and the end of the line behind it.
+-- `listed::put_refused` meets its contract: the refusal is put, and the end of the line behind it.
 use mathlib.Core.List.{List, _++_}
 use Prim.Native.Nat.{ℕ}
 use native.Mathlib.Omega.{arith}
@@ -6,8 +6,8 @@ use borrow.Author.Needs.{needs}
 use Rattle.text.specs.Text.{ascii}
 use Rattle.lines.specs.Lines.{refusalText}
 use Rattle.lines.proofs.Laws.{Told, told-none, told-then, told-room, refusal-short}
-use Rattle.listing.proofs.put_refused.Statement.{statement}
-use Rattle.listing.proofs.put_refused.Tie as tie
+use Rattle.listed.proofs.put_refused.Statement.{statement}
+use Rattle.listed.proofs.put_refused.Tie as tie
 
 -- The text up to its first piece, up to its second one and so on.
 abbrev text-1 : tie.Start → List ℕ

@@ -1,4 +1,4 @@
--- `listing::list` meets its contract: a refused input has one line, and a file that is taken has a line for its count and one for each field.
+-- `listed::list` meets its contract: a refused input has one line, and a file that is taken has a line for its count and one for each field.
 use mathlib.Core.Path.{_≡_, sym, _∙_}
 use Prim.Native.Nat.{ℕ, _*_, _≤_}
 use native.Mathlib.Omega.{arith}
@@ -8,11 +8,11 @@ use Rattle.tiling.specs.declared.Checked.the-variants as Checked
 use Rattle.tiling.specs.Tiling.{check}
 use Rattle.text.specs.Text.{ascii, decimal}
 use Rattle.text.proofs.Laws.{decimal-short}
-use Rattle.listing.specs.Listing.{countText, linesOf, most}
+use Rattle.listed.specs.Listing.{countText, linesOf, most}
 use Rattle.lines.proofs.Laws.{Told, told-none, told-then, told-room}
-use Rattle.listing.proofs.Laws.{lines-short, few-fields, listing-too-long, listing-taken, listing-refused}
-use Rattle.listing.proofs.list.Statement.{statement}
-use Rattle.listing.proofs.list.Tie as tie
+use Rattle.listed.proofs.Laws.{lines-short, few-fields, listing-too-long, listing-taken, listing-refused}
+use Rattle.listed.proofs.list.Statement.{statement}
+use Rattle.listed.proofs.list.Tie as tie
 
 -- How many fields a file has that is taken.
 abbrev fields : tie.After-put-decimal → ℕ

@@ -1,4 +1,4 @@
--- `listing::put_line` meets its contract: a field's number, the answer about it and the end of the line are put one behind the other.
+-- `listed::put_line` meets its contract: a field's number, the answer about it and the end of the line are put one behind the other.
 use mathlib.Core.Path.{_≡_, sym, _∙_}
 use mathlib.Core.List.{List, _++_}
 use Prim.Native.Nat.{ℕ}
@@ -8,11 +8,11 @@ use Rattle.fields.specs.declared.Described.the-variants as Described
 use Rattle.fields.specs.Fields.{describe}
 use Rattle.text.specs.Text.{ascii, decimal}
 use Rattle.text.proofs.Laws.{decimal-short}
-use Rattle.listing.specs.Listing.{answerText, lineOf}
+use Rattle.listed.specs.Listing.{answerText, lineOf}
 use Rattle.lines.proofs.Laws.{Told, told-none, told-then, told-room, told-length}
-use Rattle.listing.proofs.Laws.{answer-short}
-use Rattle.listing.proofs.put_line.Statement.{statement}
-use Rattle.listing.proofs.put_line.Tie as tie
+use Rattle.listed.proofs.Laws.{answer-short}
+use Rattle.listed.proofs.put_line.Statement.{statement}
+use Rattle.listed.proofs.put_line.Tie as tie
 
 abbrev Stands : tie.Start → List ℕ → ℕ → List ℕ → ℕ → Type 0
 Stands s = Told (s .args .run .now) (s .args .at)

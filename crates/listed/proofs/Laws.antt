@@ -18,7 +18,7 @@ use Rattle.fields.specs.Fields.{describe}
 use Rattle.text.specs.Text.{Puts, ascii, decimal}
 use Rattle.text.proofs.Laws.{decimal-short}
 use Rattle.lines.proofs.Laws.{refusal-short, field-short}
-use Rattle.listing.specs.Listing.{answerText, lineOf, linesOf, countText, refusedLine, most, listingOf}
+use Rattle.listed.specs.Listing.{answerText, lineOf, linesOf, countText, refusedLine, most, listingOf}
 
 -- What is put at the start of a run lies inside it.
 pub start-inside : (a u : List ℕ) {b : List ℕ} {r : ℕ} → Puts a 0 u b r → r ≤ length b
