@@ -11,10 +11,10 @@ use lib.Dec.{leb}
 use lib.IntN.{natAbs}
 use lib.ListN.{length}
 use lib.Ieee.{Float}
-use borrow.Rule.Slice.PartMut.{midOf, putMid}
+use borrow.Rule.Slice.PartMut.{putMid}
 use lib.Pow.{pow-pos, pow-mono}
-use Rattle.rows.specs.Rows.{row}
-use Rattle.rows.proofs.Laws.{row-length, row-same, part-laid, part-kept}
+use Rattle.rows.specs.Rows.{row, laid}
+use Rattle.rows.proofs.Laws.{row-length, row-same, part-laid}
 use Rattle.octets.specs.declared.FilePlace.{FilePlace}
 use Rattle.octets.specs.Numbers.{topBit}
 use Rattle.octets.proofs.Cases.{split, both}
@@ -53,7 +53,7 @@ use Rattle.fields.specs.Judged.{Judged}
 use Rattle.fields.proofs.Laws.{described, described-grid, limited, describe-placed}
 use Rattle.decoding.specs.declared.Decoded.{Decoded}
 use Rattle.decoding.specs.declared.Decoded.the-variants as Decoded
-use Rattle.decoding.specs.Decoding.{Rebuildable, packingBy, integerOf, isDecodable, presentOf, rankOf, doubleOf, Known, MarkedBy, hasRoom, gives, refuses, stretchOf, outcomeOf, outcomeBy, outcome, answerOf, valuesOf, presenceOf, valuesAfter, presenceAfter}
+use Rattle.decoding.specs.Decoding.{Rebuildable, packingBy, integerOf, isDecodable, presentOf, rankOf, doubleOf, doublesOf, marksOf, Known, MarkedBy, hasRoom, gives, refuses, outcomeOf, outcomeBy, outcome, answerOf}
 
 -- There is no room where the points pass the end of one of the runs, and where the values have room the marks decide.
 module _ (start points values presence : ℕ) where
@@ -212,40 +212,31 @@ module _ (file : List ℕ) (d : Description) (known : Known file d) where
 pub marked-room : (file : List ℕ) (d : Description) (s : ℕ) → MarkedBy file d s → pointsOf (d .grid) ≤ 8 * length (bitmapIn file s (pointsOf (d .grid)))
 marked-room file d s m = omega (arith, bitmap-length file s (pointsOf (d .grid)) (m .lies) (m .fits))
 
--- What comes of a stretch, by the integers.
-pub stretch-refused : (file : List ℕ) (d : Description) → isDecodable file d ≡ false → refuses (refusal Why.ValueOutOfRange (d .starts .seven .0)) ≡ stretchOf file d
-stretch-refused file d e = rw e
-
-pub stretch-given : (file : List ℕ) (d : Description) → isDecodable file d ≡ true → gives (pointsOf (d .grid)) (row (doubleOf file d) (pointsOf (d .grid))) (row (presentOf file d) (pointsOf (d .grid))) ≡ stretchOf file d
-stretch-given file d e = rw e
-
--- Behind the test for room the points fit into both runs, and the stretch decides.
+-- Behind the test for room the points fit into both runs.
 pub room-fits : (start points values presence : ℕ) → hasRoom start points values presence ≡ true → (start + points ≤ values) × (start + points ≤ presence)
 room-fits start points values presence e =
     let tests = both (leb (start + points) values) (leb (start + points) presence) e in
     (leb-true (start + points) values (tests .0), leb-true (start + points) presence (tests .1))
 
-pub room-outcome : (file : List ℕ) (start values presence : ℕ) (d : Description) → hasRoom start (pointsOf (d .grid)) values presence ≡ true → stretchOf file d ≡ outcomeOf file start values presence d
-room-outcome file start values presence d e = rw e
-
+-- The three outcomes for a field that is described.
 pub no-room-outcome : (file : List ℕ) (start values presence : ℕ) (d : Description) → hasRoom start (pointsOf (d .grid)) values presence ≡ false → refuses (refusal Why.NoRoom 0) ≡ outcomeOf file start values presence d
 no-room-outcome file start values presence d e = rw e
 
+pub out-of-range-outcome : (file : List ℕ) (start values presence : ℕ) (d : Description) → hasRoom start (pointsOf (d .grid)) values presence ≡ true → isDecodable file d ≡ false →
+    refuses (refusal Why.ValueOutOfRange (d .starts .seven .0)) ≡ outcomeOf file start values presence d
+out-of-range-outcome file start values presence d room fails = rw (room, fails)
+
+pub given-outcome : (file : List ℕ) (start values presence : ℕ) (d : Description) → hasRoom start (pointsOf (d .grid)) values presence ≡ true → isDecodable file d ≡ true →
+    gives (pointsOf (d .grid)) (doublesOf file d) (marksOf file d) ≡ outcomeOf file start values presence d
+given-outcome file start values presence d room all = rw (room, all)
+
 -- The field's stretch, lent on and given back, lies where it lay.
 module _ (file : List ℕ) (d : Description) (start end : ℕ) (points : end - start ≡ pointsOf (d .grid)) where
-  pub values-laid : (values stretch : List Float) → stretch ≡ valuesOf (midOf start (end - start) values) (stretchOf file d) →
-      putMid start (end - start) values stretch ≡ valuesAfter start values (stretchOf file d)
-  values-laid values stretch e =
-      split (isDecodable file d)
-      (λ all. rw all (part-laid start end values stretch (row (doubleOf file d) (pointsOf (d .grid))) (rw all at e) (row-length (doubleOf file d) (pointsOf (d .grid)) ∙ sym points)))
-      (λ fails. rw fails (part-kept start end values stretch (rw fails at e)))
+  pub values-laid : (values stretch : List Float) → stretch ≡ doublesOf file d → putMid start (end - start) values stretch ≡ laid values start (doublesOf file d)
+  values-laid values stretch e = part-laid start end values stretch (doublesOf file d) e (row-length (doubleOf file d) (pointsOf (d .grid)) ∙ sym points)
 
-  pub presence-laid : (presence stretch : List ℕ) → stretch ≡ presenceOf (midOf start (end - start) presence) (stretchOf file d) →
-      putMid start (end - start) presence stretch ≡ presenceAfter start presence (stretchOf file d)
-  presence-laid presence stretch e =
-      split (isDecodable file d)
-      (λ all. rw all (part-laid start end presence stretch (row (presentOf file d) (pointsOf (d .grid))) (rw all at e) (row-length (presentOf file d) (pointsOf (d .grid)) ∙ sym points)))
-      (λ fails. rw fails (part-kept start end presence stretch (rw fails at e)))
+  pub presence-laid : (presence stretch : List ℕ) → stretch ≡ marksOf file d → putMid start (end - start) presence stretch ≡ laid presence start (marksOf file d)
+  presence-laid presence stretch e = part-laid start end presence stretch (marksOf file d) e (row-length (presentOf file d) (pointsOf (d .grid)) ∙ sym points)
 
 -- An answer of decode: its point count is that of a grid that is taken, and a refusal is placed within the largest file that is taken.
 abbrev pub Small : Decoded → Type 0

@@ -2,7 +2,7 @@
 -- from them.
 use Prim.Native.Nat.{ℕ, _+_, _≤_}
 use mathlib.Core.Path.{_≡_}
-use mathlib.Core.Bool.{Bool, _&&_, cond}
+use mathlib.Core.Bool.{Bool, true, _&&_, cond}
 use mathlib.Core.List.{List}
 use lib.Dec.{T, leb}
 use lib.IntN.{ℤ, natAbs}
@@ -57,9 +57,19 @@ module _ (file : List ℕ) (d : Description) where
   abbrev pub doubleOf : ℕ → Float
   doubleOf i = doubleAt (packingBy (d .representation)) (λ m. natAbs (integerOf m)) presentOf rankOf i
 
-  -- A description that describe has given of this file.
+  -- What decode gives for all points, where no integer is out of its range.
+  abbrev pub doublesOf : List Float
+  doublesOf = row doubleOf (pointsOf (d .grid))
+
+  abbrev pub marksOf : List ℕ
+  marksOf = row presentOf (pointsOf (d .grid))
+
+  -- A description that describe has given of this file, and one whose integers have been judged besides.
   abbrev pub Known : Type 0
   Known = (k : ℕ) × (describe file k ≡ Described.As d)
+
+  abbrev pub Decodable : Type 0
+  Decodable = Known × (isDecodable ≡ true)
 
   -- The bitmap of the section 6 at s tells which points are present.
   pub record MarkedBy (s : ℕ) : Type 0 where
@@ -78,17 +88,13 @@ pub data Outcome : Type 0 where
   refuses : Refusal → Outcome
 
 module _ (file : List ℕ) where
-  -- Where there is room, 16 is the last refusal.
-  abbrev pub stretchOf : Description → Outcome
-  stretchOf d =
-      cond (isDecodable file d)
-      (gives (pointsOf (d .grid)) (row (doubleOf file d) (pointsOf (d .grid))) (row (presentOf file d) (pointsOf (d .grid))))
-      (refuses (refusal Why.ValueOutOfRange (d .starts .seven .0)))
-
   module _ (start values presence : ℕ) where
-    -- Before it comes 15, and before that come the refusals of describe.
+    -- The refusals of describe come first, then 15, and 16 is the last.
     abbrev pub outcomeOf : Description → Outcome
-    outcomeOf d = cond (hasRoom start (pointsOf (d .grid)) values presence) (stretchOf d) (refuses (refusal Why.NoRoom 0))
+    outcomeOf d =
+        cond (hasRoom start (pointsOf (d .grid)) values presence)
+        (cond (isDecodable file d) (gives (pointsOf (d .grid)) (doublesOf file d) (marksOf file d)) (refuses (refusal Why.ValueOutOfRange (d .starts .seven .0))))
+        (refuses (refusal Why.NoRoom 0))
 
     abbrev pub outcomeBy : Described → Outcome
     outcomeBy (Described.As d) = outcomeOf d
@@ -102,15 +108,6 @@ outcome file k start values presence = outcomeBy file start values presence (des
 abbrev pub answerOf : Outcome → Decoded
 answerOf (gives points doubles marks) = Decoded.Points points
 answerOf (refuses r) = Decoded.Refused r
-
--- What the field's own stretch of both runs holds afterwards. After a refusal it is as it was.
-abbrev pub valuesOf : List Float → Outcome → List Float
-valuesOf stretch (gives points doubles marks) = doubles
-valuesOf stretch (refuses r) = stretch
-
-abbrev pub presenceOf : List ℕ → Outcome → List ℕ
-presenceOf stretch (gives points doubles marks) = marks
-presenceOf stretch (refuses r) = stretch
 
 -- What the whole runs hold: the field's stretch from the start index on, and all else as it was.
 abbrev pub valuesAfter : ℕ → List Float → Outcome → List Float

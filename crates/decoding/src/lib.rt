@@ -6,7 +6,7 @@ ghost use Rattle.geometry.specs.Positions.{pointsOf};
 ghost use Rattle.refusals.specs.declared.Why.the-variants as Why;
 ghost use Rattle.refusals.specs.Refusals.{refusal};
 ghost use Rattle.presence.specs.declared.Presence.the-variants as Marks;
-ghost use Rattle.decoding.specs.Decoding.{Known, MarkedBy, Rebuildable, packingBy, hasRoom, isDecodable, stretchOf, outcomeOf, outcome, answerOf, valuesOf, presenceOf, valuesAfter, presenceAfter};
+ghost use Rattle.decoding.specs.Decoding.{Known, Decodable, MarkedBy, Rebuildable, packingBy, hasRoom, isDecodable, doublesOf, marksOf, outcomeOf, outcome, answerOf, valuesAfter, presenceAfter};
 use doubles::Packing;
 use fields::Described;
 use fields::Description;
@@ -87,69 +87,51 @@ fn packing_of(representation: Representation) -> Packing
     doubles::packing_of(representation.r, e, d)
 }
 
-// Decodes into the field's stretch, where all its points are present.
-fn decode_all(
-    file: &[u8],
-    description: Description,
-    values: &mut [f64],
-    presence: &mut [u8],
-) -> Decoded
-    requires { ⌜ (Known (now file) description) × (description .presence ≡ Marks.All) ⌝ }
+// Fills the field's stretch, where all its points are present.
+fn fill_all(file: &[u8], description: Description, values: &mut [f64], presence: &mut [u8])
+    requires { ⌜ (Decodable (now file) description) × (description .presence ≡ Marks.All) ⌝ }
     requires { ⌜ (length (now values) ≡ pointsOf (description .grid)) × (length (now presence) ≡ pointsOf (description .grid)) ⌝ }
-    ensures { λ r. ⌜ r ≡ answerOf (stretchOf (now (file .entry)) description) ⌝ }
-    ensures { λ _. ⌜ now (values .exit) ≡ valuesOf (now (values .entry)) (stretchOf (now (file .entry)) description) ⌝ }
-    ensures { λ _. ⌜ now (presence .exit) ≡ presenceOf (now (presence .entry)) (stretchOf (now (file .entry)) description) ⌝ }
+    ensures { λ _. ⌜ now (values .exit) ≡ doublesOf (now (file .entry)) description ⌝ }
+    ensures { λ _. ⌜ now (presence .exit) ≡ marksOf (now (file .entry)) description ⌝ }
 {
     let representation = description.representation;
     let template = representation.template;
     let starts = description.starts;
     let seven = starts.seven;
-    let grid = description.grid;
-    let points = geometry::points_of(grid);
-    if !is_decodable(file, description) {
-        return out_of_range(seven);
-    }
     let packing = packing_of(representation);
     let section = sections::octets_in(file, seven);
     match template {
         Template::Simple => {
             simple::fill_all(section, representation.bits, packing, values, presence);
-            Decoded::Points(points)
         }
         Template::Complex(grouping) => {
             let groups = complex::groups_in(file, seven, representation.bits, grouping);
             complex::fill_all(section, groups, packing, values, presence);
-            Decoded::Points(points)
         }
     }
 }
 
-// Decodes into the field's stretch, where the section 6 at `six` tells which points are present.
-fn decode_marked(
+// Fills it where the section 6 at `six` tells which points are present.
+fn fill_marked(
     file: &[u8],
     description: Description,
     six: FilePlace,
     values: &mut [f64],
     presence: &mut [u8],
-) -> Decoded
-    requires { ⌜ (Known (now file) description) × (MarkedBy (now file) description (six .0)) ⌝ }
+)
+    requires { ⌜ (Decodable (now file) description) × (MarkedBy (now file) description (six .0)) ⌝ }
     requires { ⌜ (length (now values) ≡ pointsOf (description .grid)) × (length (now presence) ≡ pointsOf (description .grid)) ⌝ }
-    ensures { λ r. ⌜ r ≡ answerOf (stretchOf (now (file .entry)) description) ⌝ }
-    ensures { λ _. ⌜ now (values .exit) ≡ valuesOf (now (values .entry)) (stretchOf (now (file .entry)) description) ⌝ }
-    ensures { λ _. ⌜ now (presence .exit) ≡ presenceOf (now (presence .entry)) (stretchOf (now (file .entry)) description) ⌝ }
+    ensures { λ _. ⌜ now (values .exit) ≡ doublesOf (now (file .entry)) description ⌝ }
+    ensures { λ _. ⌜ now (presence .exit) ≡ marksOf (now (file .entry)) description ⌝ }
 {
     let representation = description.representation;
     let template = representation.template;
     let starts = description.starts;
     let seven = starts.seven;
     let grid = description.grid;
-    let points = geometry::points_of(grid);
-    if !is_decodable(file, description) {
-        return out_of_range(seven);
-    }
     let packing = packing_of(representation);
     let section = sections::octets_in(file, seven);
-    let bitmap = presence::bitmap_in(file, six, points);
+    let bitmap = presence::bitmap_in(file, six, geometry::points_of(grid));
     match template {
         Template::Simple => {
             simple::fill_marked(
@@ -160,17 +142,30 @@ fn decode_marked(
                 values,
                 presence,
             );
-            Decoded::Points(points)
         }
         Template::Complex(grouping) => {
             let groups = complex::groups_in(file, seven, representation.bits, grouping);
             complex::fill_marked(section, bitmap, groups, packing, values, presence);
-            Decoded::Points(points)
         }
     }
 }
 
-// Decodes a field that is described. Each way to tell which points are present lends the field's stretch on by itself.
+// Fills it, whichever way tells which points are present.
+fn fill(file: &[u8], description: Description, values: &mut [f64], presence: &mut [u8])
+    requires { ⌜ Decodable (now file) description ⌝ }
+    requires { ⌜ (length (now values) ≡ pointsOf (description .grid)) × (length (now presence) ≡ pointsOf (description .grid)) ⌝ }
+    ensures { λ _. ⌜ now (values .exit) ≡ doublesOf (now (file .entry)) description ⌝ }
+    ensures { λ _. ⌜ now (presence .exit) ≡ marksOf (now (file .entry)) description ⌝ }
+{
+    let marks = description.presence;
+    match marks {
+        Presence::All => fill_all(file, description, values, presence),
+        Presence::Own(six) => fill_marked(file, description, six, values, presence),
+        Presence::Earlier(six) => fill_marked(file, description, six, values, presence),
+    }
+}
+
+// Decodes a field that is described. Nothing is written before there is room for every point and every integer is judged.
 fn decode_described(
     file: &[u8],
     description: Description,
@@ -184,34 +179,22 @@ fn decode_described(
     ensures { λ _. ⌜ now (presence .exit) ≡ presenceAfter start (now (presence .entry)) (outcomeOf (now (file .entry)) start (length (now (values .entry))) (length (now (presence .entry))) description) ⌝ }
 {
     let grid = description.grid;
+    let starts = description.starts;
     let points = geometry::points_of(grid);
     if !has_room(start, points, values.len(), presence.len()) {
         return no_room();
     }
-    let end = start + points as usize;
-    let marks = description.presence;
-    match marks {
-        Presence::All => decode_all(
-            file,
-            description,
-            &mut values[start..end],
-            &mut presence[start..end],
-        ),
-        Presence::Own(six) => decode_marked(
-            file,
-            description,
-            six,
-            &mut values[start..end],
-            &mut presence[start..end],
-        ),
-        Presence::Earlier(six) => decode_marked(
-            file,
-            description,
-            six,
-            &mut values[start..end],
-            &mut presence[start..end],
-        ),
+    if !is_decodable(file, description) {
+        return out_of_range(starts.seven);
     }
+    let end = start + points as usize;
+    fill(
+        file,
+        description,
+        &mut values[start..end],
+        &mut presence[start..end],
+    );
+    Decoded::Points(points)
 }
 
 // Decodes field `k`: fills the stretch of both runs from `start` on and answers the field's point count, or refuses with 1 to 16.

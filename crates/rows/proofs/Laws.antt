@@ -6,7 +6,7 @@ use native.Mathlib.Nat.{add-zero, zero-add, sub-zero, add-suc, add-assoc}
 use native.Mathlib.Numerals.{add-one}
 use native.Mathlib.Omega.{arith}
 use borrow.Author.Tests.{ltb-true, ltb-false}
-use borrow.Rule.Slice.PartMut.{midOf, putMid, put-same}
+use borrow.Rule.Slice.PartMut.{putMid}
 use lib.Dec.{ltb}
 use lib.ListN.{length, take, drop, set, getD, length-append, length-set, List·getD-append}
 use lib.Seq.{length-take-le, drop-length, set-at, drop-drop, drop-cons, getD-append-add, getD-at, getD-take, getD-drop}
@@ -107,14 +107,11 @@ module _ {A : Type 0} where
   pub start-end : (f : ℕ → A) (i : ℕ) (run now : List A) → now ≡ filled f 0 i run → (n : ℕ) → i ≡ n → n ≡ length run → now ≡ row f n
   start-end f i run now so-far n all whole = so-far ∙ filled-whole f i run (all ∙ whole) ∙ ap (row f) all
 
-  -- A part that was lent and came back: with these elements, or as it was.
+  -- A part that was lent and came back with these elements.
   pub part-laid : (at end : ℕ) (run part elements : List A) → part ≡ elements → length elements ≡ end - at → putMid at (end - at) run part ≡ laid run at elements
   part-laid at end run part elements same l =
       ap₂ (λ (stretch rest : List A). take at run ++ (stretch ++ rest)) same (drop-drop (end - at) at run ∙ ap (λ (k : ℕ). drop (at + k) run) (sym l))
       ∙ sym (append-assoc (take at run) elements (drop (at + length elements) run))
-
-  pub part-kept : (at end : ℕ) (run part : List A) → part ≡ midOf at (end - at) run → putMid at (end - at) run part ≡ run
-  part-kept at end run part same = ap (putMid at (end - at) run) same ∙ put-same at (end - at) run
 
   -- The elements of a run with a row laid into it: those of the row, and outside it those that were there.
   module _ (run : List A) (at : ℕ) (f : ℕ → A) (n : ℕ) (z : A) (h : at + n ≤ length run) where
