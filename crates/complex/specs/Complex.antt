@@ -6,7 +6,7 @@ use mathlib.Core.List.{List}
 use lib.Dec.{ltb}
 use lib.IntN.{ℤ, natAbs}
 use Rattle.octets.specs.Places.{firstBit}
-use Rattle.representation.specs.declared.Grouping.{Grouping}
+use Rattle.grouping.specs.declared.Grouping.{Grouping}
 use Rattle.packing.specs.Packing.{differencingAt, layoutOf, widthOf, lengthOf, valuesBefore, bitsBefore, areSound, Limited}
 use Rattle.group.specs.declared.Group.{Group}
 use Rattle.integers.specs.Integers.{referenceOf, storedAt, integer}

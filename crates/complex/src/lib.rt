@@ -16,12 +16,12 @@ use doubles::Packing;
 use group::Group;
 use group::Reached;
 use group::Worked;
+use grouping::Grouping;
 use octets::BitPlace;
 use octets::FilePlace;
 use octets::Signed;
 use packing::Differencing;
 use packing::Layout;
-use representation::Grouping;
 
 // What is known of all groups: where their runs lie, how their widths and lengths are told, the bits of a reference, and what stands before
 // them.

@@ -29,10 +29,11 @@ use Rattle.tiling.specs.Tiling.{largest, find}
 use Rattle.grammar.specs.Laid.{Laid}
 use Rattle.grammar.proofs.Laid.{found-laid}
 use Rattle.geometry.specs.Positions.{pointsOf}
-use Rattle.representation.specs.declared.Grouping.{Grouping}
+use Rattle.grouping.specs.declared.Grouping.{Grouping}
+use Rattle.grouping.proofs.Laws.{Grouped}
 use Rattle.representation.specs.declared.Template.{Template}
 use Rattle.representation.specs.declared.Template.the-variants as Template
-use Rattle.representation.proofs.Laws.{Scaled, Grouped, represented, represented-groups}
+use Rattle.representation.proofs.Laws.{Scaled, represented, represented-groups}
 use Rattle.presence.specs.declared.Marked.the-variants as Marked
 use Rattle.presence.specs.declared.Presence.the-variants as Presence
 use Rattle.presence.specs.Presence.{bitmapIn}

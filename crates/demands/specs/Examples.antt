@@ -18,7 +18,7 @@ use Rattle.geometry.specs.declared.Grid.{Grid}
 use Rattle.geometry.specs.Positions.{longitudeOf}
 use Rattle.presence.specs.declared.Presence.the-variants as Presence
 use Rattle.presence.specs.Presence.{bitmapLength, presentAt}
-use Rattle.representation.specs.declared.Grouping.{Grouping}
+use Rattle.grouping.specs.declared.Grouping.{Grouping}
 use Rattle.representation.specs.declared.Template.the-variants as Template
 use Rattle.representation.specs.declared.Representation.{Representation}
 use Rattle.packing.specs.Packing.{simpleLength}

@@ -7,7 +7,7 @@ use native.Mathlib.Omega.{arith}
 use borrow.Author.Tests.{lt-ltb, le-ltb, ltb-true, ltb-false}
 use lib.Dec.{ltb}
 use Rattle.octets.proofs.Cases.{split}
-use Rattle.representation.specs.declared.Grouping.{Grouping}
+use Rattle.grouping.specs.declared.Grouping.{Grouping}
 use Rattle.packing.specs.declared.Layout.{Layout}
 use Rattle.packing.specs.Packing.{valuesBefore}
 use Rattle.packing.proofs.Laws.{values-more, values-mono}

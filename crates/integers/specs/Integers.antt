@@ -11,7 +11,7 @@ use Rattle.octets.specs.Numbers.{whole}
 use Rattle.sections.specs.Sections.{octetsIn}
 use Rattle.bits.specs.Bits.{bitsAt}
 use Rattle.doubles.specs.Doubles.{isPacked}
-use Rattle.representation.specs.declared.Grouping.{Grouping}
+use Rattle.grouping.specs.declared.Grouping.{Grouping}
 use Rattle.representation.specs.declared.Template.{Template}
 use Rattle.representation.specs.declared.Template.the-variants as Template
 use Rattle.representation.specs.declared.Representation.{Representation}

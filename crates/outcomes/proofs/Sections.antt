@@ -7,6 +7,7 @@ use Rattle.identification.proofs as identification
 use Rattle.geometry.proofs as geometry
 use Rattle.grid.proofs as grid
 use Rattle.product.proofs as product
+use Rattle.grouping.proofs as grouping
 use Rattle.representation.proofs as representation
 use Rattle.presence.proofs as presence
 use Rattle.packing.proofs as packing
@@ -34,6 +35,15 @@ pub product-product-definition-at : Determined product.product_definition_at.end
 product-product-definition-at _ 𝓤 _ _ _ _ _ _ _ _ _ _ _ _ = one 𝓤 (λ p q. (alike p q, refl))
 
 -- Section 5.
+pub grouping-grouping-at : Determined grouping.grouping_at.ended (λ _. grouping.grouping_at.clauses)
+grouping-grouping-at _ 𝓤 _ _ _ _ _ _ _ _ _ _ _ _ = one 𝓤 (λ p q. (alike p q, refl))
+
+pub grouping-is-differenced : Determined grouping.is_differenced.ended (λ _. grouping.is_differenced.clauses)
+grouping-is-differenced _ 𝓤 _ _ _ _ _ _ _ _ _ _ _ _ = one 𝓤 (λ p q. (alike p q, refl))
+
+pub grouping-is-grouping : Determined grouping.is_grouping.ended (λ _. grouping.is_grouping.clauses)
+grouping-is-grouping _ 𝓤 _ _ _ _ _ _ _ _ _ _ _ _ = one 𝓤 (λ p q. (alike p q, refl))
+
 pub representation-representation-at : Determined representation.representation_at.ended (λ _. representation.representation_at.clauses)
 representation-representation-at _ 𝓤 _ _ _ _ _ _ _ _ _ _ _ _ = one 𝓤 (λ p q. (alike p q, refl))
 

@@ -14,7 +14,7 @@ use Rattle.octets.proofs.Cases.{split, both}
 use Rattle.sections.specs.Sections.{lengthAt, octetsIn}
 use Rattle.bits.specs.Bits.{bitsAt, octetsOf}
 use Rattle.bits.proofs.Laws.{bits-lt}
-use Rattle.representation.specs.declared.Grouping.{Grouping}
+use Rattle.grouping.specs.declared.Grouping.{Grouping}
 use Rattle.representation.specs.declared.Representation.{Representation}
 use Rattle.representation.specs.declared.Template.the-variants as Template
 use Rattle.packing.specs.declared.Layout.{Layout}

@@ -5,7 +5,7 @@ use mathlib.Core.List.{List}
 use Prim.Native.Nat.{ℕ, _+_, _*_, _^_, _≤_, _<_}
 use native.Mathlib.Nat.{mul-le-mul-right}
 use native.Mathlib.Omega.{arith}
-use Rattle.representation.specs.declared.Grouping.{Grouping}
+use Rattle.grouping.specs.declared.Grouping.{Grouping}
 use Rattle.packing.specs.declared.Layout.{Layout}
 use Rattle.packing.specs.declared.Plan.the-variants as Plan
 use Rattle.packing.specs.Packing.{widthOf, lengthOf, valuesBefore, bitsBefore, areSound, planOf}

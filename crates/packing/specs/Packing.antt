@@ -6,7 +6,7 @@ use lib.Dec.{eqb, leb}
 use Rattle.octets.specs.Places.{firstBit}
 use Rattle.sections.specs.Sections.{held, heldSigned, lengthAt, octetsIn}
 use Rattle.bits.specs.Bits.{bitsAt, octetsOf}
-use Rattle.representation.specs.declared.Grouping.{Grouping}
+use Rattle.grouping.specs.declared.Grouping.{Grouping}
 use Rattle.representation.specs.declared.Template.{Template}
 use Rattle.representation.specs.declared.Template.the-variants as Template
 use Rattle.representation.specs.declared.Representation.{Representation}

@@ -6,11 +6,11 @@ ghost use Rattle.octets.specs.Places.{firstBit};
 ghost use Rattle.sections.specs.Sections.{Lies};
 ghost use Rattle.bits.specs.Bits.{bitsAt};
 ghost use Rattle.packing.specs.Packing.{differencingAt, layoutOf, widthOf, lengthOf, planOf, isGrouped, isPacked, Limited, LimitedBy};
+use grouping::Grouping;
 use octets::BitPlace;
 use octets::FilePlace;
 use octets::OctetNumber;
 use octets::Signed;
-use representation::Grouping;
 use representation::Representation;
 use representation::Template;
 

@@ -1,19 +1,20 @@
 -- What a caller may rely on where a section 5 is taken: the limits of R, E, D and the bits of a number, and those of the groups of template 5.3.
 use mathlib.Core.Path.{_≡_, refl, ap, sym, subst, _∙_}
-use mathlib.Core.Bool.{true, false}
+use mathlib.Core.Bool.{true}
 use mathlib.Core.List.{List}
 use Prim.Native.Nat.{ℕ, _≤_}
 use native.Mathlib.Omega.{arith}
-use borrow.Author.Tests.{leb-true}
-use lib.Dec.{T, leb}
+use lib.Dec.{T}
 use lib.Ieee.{binary32, ofBits}
 use lib.Ieee.Scale.{finite}
-use Rattle.octets.proofs.Cases.{split, both, chosen}
+use Rattle.octets.proofs.Cases.{split, chosen}
 use Rattle.sections.specs.Sections.{held}
 use Rattle.refusals.specs.declared.Refusal.{Refusal}
 use Rattle.refusals.specs.declared.Why.the-variants as Why
 use Rattle.refusals.specs.Refusals.{refusal}
-use Rattle.representation.specs.declared.Grouping.{Grouping}
+use Rattle.grouping.specs.declared.Grouping.{Grouping}
+use Rattle.grouping.specs.Groups.{groupingAt, isGrouping}
+use Rattle.grouping.proofs.Laws.{Grouped, grouped}
 use Rattle.representation.specs.declared.Template.{Template}
 use Rattle.representation.specs.declared.Template.the-variants as Template
 use Rattle.representation.specs.declared.TemplateReading.{TemplateReading}
@@ -21,7 +22,7 @@ use Rattle.representation.specs.declared.TemplateReading.the-variants as
 use Rattle.representation.specs.declared.Representation.{Representation}
 use Rattle.representation.specs.declared.Represented.{Represented}
 use Rattle.representation.specs.declared.Represented.the-variants as Represented
-use Rattle.representation.specs.Representation.{refused, representationWith, isScaled, groupingAt, isGrouping, templateAt, representedBy, representationAt}
+use Rattle.representation.specs.Representation.{refused, representationWith, isScaled, templateAt, representedBy, representationAt}
 use Rattle.representation.proofs.Tests.{limited, complex-is-grouped}
 
 -- The numbers from which a value is rebuilt: R is finite, E and D are of at most 127 and 22, and a number has at most 31 bits.
@@ -30,43 +31,6 @@ pub record Scaled (r : Representation) : Type 0 where
   pub e127 : r .e .size ≤ 127
   pub d22 : r .d .size ≤ 22
   pub bits31 : r .bits ≤ 31
-
--- The groups of n values in template 5.3: the reference width, and the bits of a stored width and of a stored length, are at most 31; each of the
--- three numbers that stand before the groups has 1 to 4 octets; there are at least two values, and from 1 to n groups.
-pub record Grouped (g : Grouping) (n : ℕ) : Type 0 where
-  pub width31 : g .widths .reference ≤ 31
-  pub widthBits31 : g .widths .bits ≤ 31
-  pub lengthBits31 : g .lengths .bits ≤ 31
-  pub extra1 : 1 ≤ g .extra
-  pub extra4 : g .extra ≤ 4
-  pub values2 : 2 ≤ n
-  pub groups1 : 1 ≤ g .groups
-  pub groupsN : g .groups ≤ n
-
--- That is what `isGrouping` tests.
-module _ (g : Grouping) (n : ℕ) where
-  pub grouped : isGrouping g n ≡ true → Grouped g n
-  grouped e =
-      let groupsN = both _ (leb (g .groups) n) e in
-      let groups1 = both _ (leb 1 (g .groups)) (groupsN .0) in
-      let values2 = both _ (leb 2 n) (groups1 .0) in
-      let extra4 = both _ (leb (g .extra) 4) (values2 .0) in
-      let extra1 = both _ (leb 1 (g .extra)) (extra4 .0) in
-      let lengthBits31 = both _ (leb (g .lengths .bits) 31) (extra1 .0) in
-      let widthBits31 = both _ (leb (g .widths .bits) 31) (lengthBits31 .0) in
-      record {
-        width31 = leb-true _ _ (widthBits31 .0);
-        widthBits31 = leb-true _ _ (widthBits31 .1);
-        lengthBits31 = leb-true _ _ (lengthBits31 .1);
-        extra1 = leb-true _ _ (extra1 .1);
-        extra4 = leb-true _ _ (extra4 .1);
-        values2 = leb-true _ _ (values2 .1);
-        groups1 = leb-true _ _ (groups1 .1);
-        groupsN = leb-true _ _ (groupsN .1);
-      }
-
-  pub grouped-not : (Grouped g n → ⊥) → isGrouping g n ≡ false
-  grouped-not out = split (isGrouping g n) (λ e. absurd (out (grouped e))) (λ e. e)
 
 -- What a representation that is said was read from.
 record ReadFrom (file : List ℕ) (s : ℕ) (r : Representation) (reading : TemplateReading) : Type 0 where

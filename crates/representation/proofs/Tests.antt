@@ -10,12 +10,13 @@ use lib.Ieee.{binary32, ofBits}
 use lib.Ieee.Scale.{finite}
 use Rattle.octets.proofs.Cases.{split, both}
 use Rattle.sections.specs.Sections.{octet, held, heldSigned, lengthAt}
-use Rattle.representation.specs.declared.Grouping.{Grouping}
+use Rattle.grouping.specs.declared.Grouping.{Grouping}
+use Rattle.grouping.specs.Groups.{groupingAt, isDifferenced, isGrouping}
 use Rattle.representation.specs.declared.Template.{Template}
 use Rattle.representation.specs.declared.Template.the-variants as Template
 use Rattle.representation.specs.declared.TemplateReading.the-variants as TemplateReading
 use Rattle.representation.specs.declared.Represented.the-variants as Represented
-use Rattle.representation.specs.Representation.{refused, representationWith, isScaled, groupingAt, isDifferenced, isGrouping, complexAt, templateAt, representedBy, representationAt}
+use Rattle.representation.specs.Representation.{refused, representationWith, isScaled, complexAt, templateAt, representedBy, representationAt}
 
 -- A template that is read is one alone, and what is bad is none.
 never-read : {A : Type 0} {t : Template} → TemplateReading.Bad ≡ TemplateReading.Is t → A
@@ -26,19 +27,6 @@ never-simple {A} {g} e = let impossible : _≡_ {A = ℕ} 0 1 = cc in absurd (om
 
 same-groups : {g h : Grouping} → TemplateReading.Is (Template.Complex g) ≡ TemplateReading.Is (Template.Complex h) → g ≡ h
 same-groups e = cc
-
--- Where the other bounds hold, the number of groups decides.
-pub groups-decide : (g : Grouping) (n : ℕ) → (g .widths .reference ≤ 31) × (g .widths .bits ≤ 31) × (g .lengths .bits ≤ 31) × (1 ≤ g .extra) × (g .extra ≤ 4) × (2 ≤ n) × (1 ≤ g .groups) → isGrouping g n ≡ leb (g .groups) n
-groups-decide g n h =
-    simp (
-      le-leb _ _ (h .0),
-      le-leb _ _ (h .1),
-      le-leb _ _ (h .2),
-      le-leb _ _ (h .3),
-      le-leb _ _ (h .4),
-      le-leb _ _ (h .5),
-      le-leb _ _ (h .6),
-    )
 
 -- What `isScaled` tells, but for octet 21.
 pub record Limited (file : List ℕ) (s : ℕ) : Type 0 where
@@ -65,16 +53,6 @@ module _ (file : List ℕ) (s : ℕ) where
   -- Within those limits, octet 21 decides.
   pub doubles-decide : Limited file s → isScaled file s ≡ eqb (octet file s 21) 0
   doubles-decide h = simp (h .finiteR, le-leb _ _ (h .e127), le-leb _ _ (h .d22), le-leb _ _ (h .bits31))
-
-  -- What is said of the differences follows from the octets in turn.
-  pub no-groups : (octet file s 22 ≡ 1 → ⊥) → isDifferenced file s ≡ false
-  no-groups other = simp (ne-eqb _ _ other)
-
-  pub missing-values : octet file s 22 ≡ 1 → (octet file s 23 ≡ 0 → ⊥) → isDifferenced file s ≡ false
-  missing-values groups other = simp (eq-eqb _ _ groups, ne-eqb _ _ other)
-
-  pub order-decides : octet file s 22 ≡ 1 → octet file s 23 ≡ 0 → isDifferenced file s ≡ eqb (octet file s 48) 2
-  order-decides groups missing = simp (eq-eqb _ _ groups, eq-eqb _ _ missing)
 
   -- What template 5.3 is read as follows from the two tests.
   pub not-differenced : isDifferenced file s ≡ false → complexAt file s ≡ TemplateReading.Bad

@@ -2,34 +2,13 @@
 ghost use mathlib.Core.Path.{_≡_};
 ghost use Prim.Native.Nat.{_≤_};
 ghost use Rattle.sections.specs.Sections.{Lies, lengthAt};
-ghost use Rattle.representation.specs.Representation.{refused, isScaled, groupingAt, isDifferenced, isGrouping, complexAt, templateAt, representationAt};
+ghost use Rattle.representation.specs.Representation.{refused, isScaled, complexAt, templateAt, representationAt};
+use grouping::Grouping;
 use octets::FilePlace;
 use octets::OctetNumber;
 use octets::Signed;
 use refusals::Refusal;
 use refusals::Why;
-
-// How the widths of groups are stored: each is the reference and a number of so many bits.
-pub struct Widths {
-    pub reference: u32,
-    pub bits: u32,
-}
-
-// How their lengths are stored: each is the reference and, times the increment, a number of so many bits. That of the last group is told here.
-pub struct Lengths {
-    pub reference: u32,
-    pub increment: u32,
-    pub last: u32,
-    pub bits: u32,
-}
-
-// What template 5.3 says of its groups. The first value, the second and Zmin take `extra` octets each.
-pub struct Grouping {
-    pub groups: u32,
-    pub widths: Widths,
-    pub lengths: Lengths,
-    pub extra: u32,
-}
 
 // The data template: 5.0, simple packing, or 5.3, complex packing with spatial differencing.
 pub enum Template {
@@ -88,83 +67,16 @@ fn is_scaled(file: &[u8], at: FilePlace) -> bool
     sections::octet(file, at, OctetNumber(21)) == 0
 }
 
-// What template 5.3 says of its groups, as its octets hold it.
-fn grouping_at(file: &[u8], at: FilePlace) -> Grouping
-    requires { ⌜ (Lies (now file) (at .0)) × (lengthAt (now file) (at .0) ≡ 49) ⌝ }
-    ensures { λ r. ⌜ r ≡ groupingAt (now (file .entry)) (at .0) ⌝ }
-{
-    let widths = Widths {
-        reference: sections::octet(file, at, OctetNumber(36)) as u32,
-        bits: sections::octet(file, at, OctetNumber(37)) as u32,
-    };
-    let lengths = Lengths {
-        reference: sections::held(file, at, OctetNumber(38), OctetNumber(41)) as u32,
-        increment: sections::octet(file, at, OctetNumber(42)) as u32,
-        last: sections::held(file, at, OctetNumber(43), OctetNumber(46)) as u32,
-        bits: sections::octet(file, at, OctetNumber(47)) as u32,
-    };
-    Grouping {
-        groups: sections::held(file, at, OctetNumber(32), OctetNumber(35)) as u32,
-        widths,
-        lengths,
-        extra: sections::octet(file, at, OctetNumber(49)) as u32,
-    }
-}
-
-// Are differences of the second order, with general groups and no values marked as missing?
-fn is_differenced(file: &[u8], at: FilePlace) -> bool
-    requires { ⌜ (Lies (now file) (at .0)) × (lengthAt (now file) (at .0) ≡ 49) ⌝ }
-    ensures { λ r. ⌜ r ≡ isDifferenced (now (file .entry)) (at .0) ⌝ }
-{
-    if sections::octet(file, at, OctetNumber(22)) != 1 {
-        return false;
-    }
-    if sections::octet(file, at, OctetNumber(23)) != 0 {
-        return false;
-    }
-    sections::octet(file, at, OctetNumber(48)) == 2
-}
-
-// Can `n` values be packed in such groups?
-fn is_grouping(grouping: Grouping, n: u32) -> bool
-    ensures { λ r. ⌜ r ≡ isGrouping grouping n ⌝ }
-{
-    let widths = grouping.widths;
-    let lengths = grouping.lengths;
-    if 31 < widths.reference {
-        return false;
-    }
-    if 31 < widths.bits {
-        return false;
-    }
-    if 31 < lengths.bits {
-        return false;
-    }
-    if grouping.extra < 1 {
-        return false;
-    }
-    if 4 < grouping.extra {
-        return false;
-    }
-    if n < 2 {
-        return false;
-    }
-    if grouping.groups < 1 {
-        return false;
-    }
-    grouping.groups <= n
-}
-
 // Template 5.3 in its 49 octets.
 fn complex_at(file: &[u8], at: FilePlace) -> TemplateReading
     requires { ⌜ (Lies (now file) (at .0)) × (lengthAt (now file) (at .0) ≡ 49) ⌝ }
     ensures { λ r. ⌜ r ≡ complexAt (now (file .entry)) (at .0) ⌝ }
 {
-    if !is_differenced(file, at) {
+    if !grouping::is_differenced(file, at) {
         return TemplateReading::Bad;
     }
-    let grouping = grouping_at(file, at);
-    if !is_grouping(
+    let grouping = grouping::grouping_at(file, at);
+    if !grouping::is_grouping(
         grouping,
         sections::held(file, at, OctetNumber(6), OctetNumber(9)) as u32,
     ) {

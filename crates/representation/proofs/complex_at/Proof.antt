@@ -3,7 +3,7 @@ use mathlib.Core.Path.{_≡_, sym, _∙_}
 use borrow.Author.Needs.{needs}
 use borrow.Author.Tests.{not-true, not-false}
 use Rattle.sections.specs.Sections.{held}
-use Rattle.representation.specs.Representation.{groupingAt, isGrouping}
+use Rattle.grouping.specs.Groups.{groupingAt, isGrouping}
 use Rattle.representation.proofs.Tests.{not-differenced, not-grouped, differenced}
 use Rattle.representation.proofs.complex_at.Statement.{statement}
 use Rattle.representation.proofs.complex_at.Tie as tie

@@ -1,10 +1,9 @@
--- `representation::is_grouping` meets its contract: a bound that fails decides, and where none before it does, the number of groups decides.
+-- `grouping::is_grouping` meets its contract: a bound that fails decides, and where none before it does, the number of groups decides.
 use mathlib.Core.Path.{sym}
 use native.Mathlib.Omega.{arith}
-use Rattle.representation.proofs.Tests.{groups-decide}
-use Rattle.representation.proofs.Laws.{grouped-not}
-use Rattle.representation.proofs.is_grouping.Statement.{statement}
-use Rattle.representation.proofs.is_grouping.Tie as tie
+use Rattle.grouping.proofs.Laws.{grouped-not, groups-decide}
+use Rattle.grouping.proofs.is_grouping.Statement.{statement}
+use Rattle.grouping.proofs.is_grouping.Tie as tie
 
 returns : tie.Need-returns
 returns c = let args = c .before .before .before .before .args in sym (grouped-not (args .grouping) (args .n) (omega arith))

@@ -1,9 +1,9 @@
--- `representation::is_differenced` meets its contract: an octet that is wrong decides, and where none before it is, octet 48 decides.
+-- `grouping::is_differenced` meets its contract: an octet that is wrong decides, and where none before it is, octet 48 decides.
 use mathlib.Core.Path.{sym, _∙_}
 use borrow.Author.Needs.{needs}
-use Rattle.representation.proofs.Tests.{no-groups, missing-values, order-decides}
-use Rattle.representation.proofs.is_differenced.Statement.{statement}
-use Rattle.representation.proofs.is_differenced.Tie as tie
+use Rattle.grouping.proofs.Laws.{no-groups, missing-values, order-decides}
+use Rattle.grouping.proofs.is_differenced.Statement.{statement}
+use Rattle.grouping.proofs.is_differenced.Tie as tie
 
 octet-requires : tie.Need-octet-requires
 octet-requires c κs = search needs

@@ -1,7 +1,7 @@
--- `representation::grouping_at` meets its contract: each number is read from its octets.
+-- `grouping::grouping_at` meets its contract: each number is read from its octets.
 use borrow.Author.Needs.{needs}
-use Rattle.representation.proofs.grouping_at.Statement.{statement}
-use Rattle.representation.proofs.grouping_at.Tie as tie
+use Rattle.grouping.proofs.grouping_at.Statement.{statement}
+use Rattle.grouping.proofs.grouping_at.Tie as tie
 
 octet-requires : tie.Need-octet-requires
 octet-requires c κs = search needs
