@@ -11,8 +11,10 @@ use lib.Dec.{ltb}
 use Rattle.octets.proofs.Cases.{split, chosen}
 use Rattle.octets.specs.Places.{firstBit}
 use Rattle.octets.specs.declared.Signed.{Signed}
-use Rattle.packing.specs.Packing.{widthOf, lengthOf, valuesBefore, bitsBefore, areSound}
-use Rattle.packing.proofs.Laws.{Bounded, layout-bounded, run-fits, stored-fits, sound-more, sound-widths, values-more, bits-more, values-mono, bits-of-values}
+use Rattle.layout.specs.Runs.{widthOf, lengthOf}
+use Rattle.layout.proofs.Laws.{Bounded, layout-bounded, run-fits, stored-fits}
+use Rattle.packing.specs.Packing.{valuesBefore, bitsBefore, areSound}
+use Rattle.packing.proofs.Laws.{sound-more, sound-widths, values-more, bits-more, values-mono, bits-of-values}
 use Rattle.group.specs.Group.{mostX, Limits}
 use Rattle.integers.specs.Integers.{referenceOf}
 use Rattle.integers.specs.Worked.{raisedBy, loweredBy}

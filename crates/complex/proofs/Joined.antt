@@ -11,7 +11,8 @@ use lib.IntN.{natAbs}
 use Rattle.octets.specs.Places.{firstBit}
 use Rattle.octets.proofs.Cases.{split}
 use Rattle.bits.specs.Bits.{bitsAt}
-use Rattle.packing.specs.Packing.{widthOf, lengthOf, valuesBefore, bitsBefore}
+use Rattle.layout.specs.Runs.{widthOf, lengthOf}
+use Rattle.packing.specs.Packing.{valuesBefore, bitsBefore}
 use Rattle.packing.proofs.Laws.{values-more, values-mono}
 use Rattle.group.specs.declared.Worked as declared
 use Rattle.group.specs.declared.Worked.the-variants as Worked

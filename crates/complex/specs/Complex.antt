@@ -7,7 +7,8 @@ use lib.Dec.{ltb}
 use lib.IntN.{ℤ, natAbs}
 use Rattle.octets.specs.Places.{firstBit}
 use Rattle.grouping.specs.declared.Grouping.{Grouping}
-use Rattle.packing.specs.Packing.{differencingAt, layoutOf, widthOf, lengthOf, valuesBefore, bitsBefore, areSound, Limited}
+use Rattle.layout.specs.Runs.{differencingAt, layoutOf, widthOf, lengthOf, Limited}
+use Rattle.packing.specs.Packing.{valuesBefore, bitsBefore, areSound}
 use Rattle.group.specs.declared.Group.{Group}
 use Rattle.integers.specs.Integers.{referenceOf, storedAt, integer}
 use Rattle.integers.specs.Worked.{raisedBy, loweredBy}

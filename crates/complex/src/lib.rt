@@ -8,7 +8,7 @@ ghost use Rattle.rows.specs.Rows.{row};
 ghost use Rattle.bits.specs.Bits.{bitAt};
 ghost use Rattle.points.specs.Points.{doubleAt};
 ghost use Rattle.presence.specs.Presence.{onesBefore};
-ghost use Rattle.packing.specs.Packing.{Limited};
+ghost use Rattle.layout.specs.Runs.{Limited};
 ghost use Rattle.integers.specs.Worked.{raisedBy, loweredBy};
 ghost use Rattle.integers.specs.Integers.{areInRange};
 ghost use Rattle.complex.specs.Complex.{groupsIn, skipped, startOf, groupAt, valuesIn, integerIn, sizeIn, Sound};
@@ -17,11 +17,11 @@ use group::Group;
 use group::Reached;
 use group::Worked;
 use grouping::Grouping;
+use layout::Differencing;
+use layout::Layout;
 use octets::BitPlace;
 use octets::FilePlace;
 use octets::Signed;
-use packing::Differencing;
-use packing::Layout;
 
 // What is known of all groups: where their runs lie, how their widths and lengths are told, the bits of a reference, and what stands before
 // them.
@@ -50,8 +50,8 @@ pub fn groups_in(file: &[u8], at: FilePlace, bits: u32, grouping: Grouping) -> G
     requires { ⌜ (1 ≤ grouping .extra) × (at .0 + 5 + 3 * grouping .extra ≤ length (now file)) ⌝ }
     ensures { λ r. ⌜ r ≡ groupsIn (now (file .entry)) (at .0) bits grouping ⌝ }
 {
-    let layout = packing::layout_of(bits, grouping);
-    let differencing = packing::differencing_at(file, at, grouping.extra);
+    let layout = layout::layout_of(bits, grouping);
+    let differencing = layout::differencing_at(file, at, grouping.extra);
     Groups {
         layout,
         grouping,
@@ -99,9 +99,9 @@ fn group_at(section: &[u8], groups: Groups, i: u32, start: Start) -> Met
     let references = layout.references;
     let zmin = differencing.zmin;
     let first = start.bit.0;
-    let width = packing::width_of(section, layout, grouping, i);
-    let length = packing::length_of(section, layout, grouping, i);
-    let reference = packing::stored(section, references, groups.bits, i);
+    let width = layout::width_of(section, layout, grouping, i);
+    let length = layout::length_of(section, layout, grouping, i);
+    let reference = layout::stored(section, references, groups.bits, i);
     let skip = skipped(start.values, length);
     Met {
         group: Group {

@@ -38,9 +38,10 @@ use Rattle.presence.specs.declared.Marked.the-variants as Marked
 use Rattle.presence.specs.declared.Presence.the-variants as Presence
 use Rattle.presence.specs.Presence.{bitmapIn}
 use Rattle.presence.proofs.Laws.{marked-present, marked-most, marked-own, marked-earlier, present-all, present-own, present-earlier, bitmap-length}
+use Rattle.layout.specs.Runs.{Limited}
+use Rattle.layout.proofs.Laws.{stored-fits}
 use Rattle.packing.specs.Packing as Packing
-use Rattle.packing.specs.Packing.{Limited}
-use Rattle.packing.proofs.Laws.{packed-plan, stored-fits}
+use Rattle.packing.proofs.Laws.{packed-plan}
 use Rattle.points.specs.Points.{pointValue, doubleAt}
 use Rattle.integers.specs.Integers.{simpleInteger, areInRange}
 use Rattle.integers.proofs.Range.{in-range-all}

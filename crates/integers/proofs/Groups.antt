@@ -8,7 +8,7 @@ use borrow.Author.Tests.{lt-ltb, le-ltb, ltb-true, ltb-false}
 use lib.Dec.{ltb}
 use Rattle.octets.proofs.Cases.{split}
 use Rattle.grouping.specs.declared.Grouping.{Grouping}
-use Rattle.packing.specs.declared.Layout.{Layout}
+use Rattle.layout.specs.declared.Layout.{Layout}
 use Rattle.packing.specs.Packing.{valuesBefore}
 use Rattle.packing.proofs.Laws.{values-more, values-mono}
 use Rattle.integers.specs.Integers.{Stands, groupAmong, groupOf, packedIn, referenceOf, storedAt}

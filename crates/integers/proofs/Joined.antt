@@ -15,7 +15,7 @@ use Rattle.doubles.specs.Doubles.{isPacked}
 use Rattle.group.specs.declared.Worked as declared
 use Rattle.group.specs.declared.Worked.the-variants as Worked
 use Rattle.group.specs.Group.{mostX, next}
-use Rattle.packing.specs.declared.Differencing.{Differencing}
+use Rattle.layout.specs.declared.Differencing.{Differencing}
 use Rattle.integers.specs.Integers.{integer}
 use Rattle.integers.specs.Worked.{raisedBy, loweredBy, worked}
 

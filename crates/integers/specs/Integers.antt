@@ -15,9 +15,10 @@ use Rattle.grouping.specs.declared.Grouping.{Grouping}
 use Rattle.representation.specs.declared.Template.{Template}
 use Rattle.representation.specs.declared.Template.the-variants as Template
 use Rattle.representation.specs.declared.Representation.{Representation}
-use Rattle.packing.specs.declared.Differencing.{Differencing}
-use Rattle.packing.specs.declared.Layout.{Layout}
-use Rattle.packing.specs.Packing.{differencingAt, layoutOf, widthOf, lengthOf, valuesBefore, bitsBefore}
+use Rattle.layout.specs.declared.Differencing.{Differencing}
+use Rattle.layout.specs.declared.Layout.{Layout}
+use Rattle.layout.specs.Runs.{differencingAt, layoutOf, widthOf, lengthOf}
+use Rattle.packing.specs.Packing.{valuesBefore, bitsBefore}
 
 -- Simple packing: the numbers of so many bits each, one behind the other, from octet 6 on.
 abbrev pub simpleInteger : List ℕ → ℕ → ℕ → ℕ

@@ -6,7 +6,7 @@ use Rattle.octets.specs.declared.Signed.{Signed}
 use Rattle.group.specs.declared.Worked as declared
 use Rattle.group.specs.declared.Worked.the-variants as Worked
 use Rattle.group.specs.Group.{mostX, next}
-use Rattle.packing.specs.declared.Differencing.{Differencing}
+use Rattle.layout.specs.declared.Differencing.{Differencing}
 
 -- What Zmin adds, and what it takes away.
 abbrev pub raisedBy : Signed → ℕ

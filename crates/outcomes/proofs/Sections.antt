@@ -10,6 +10,7 @@ use Rattle.product.proofs as product
 use Rattle.grouping.proofs as grouping
 use Rattle.representation.proofs as representation
 use Rattle.presence.proofs as presence
+use Rattle.layout.proofs as layout
 use Rattle.packing.proofs as packing
 
 -- Section 1.
@@ -58,20 +59,20 @@ pub presence-presence-at : Determined presence.presence_at.ended (λ _. presence
 presence-presence-at _ 𝓤 _ _ _ _ _ _ _ _ _ _ _ _ = one 𝓤 (λ p q. (alike p q, refl))
 
 -- Section 7.
-pub packing-differencing-at : Determined packing.differencing_at.ended (λ _. packing.differencing_at.clauses)
-packing-differencing-at _ 𝓤 _ _ _ _ _ _ _ _ _ _ _ _ = one 𝓤 (λ p q. (alike p q, refl))
+pub layout-differencing-at : Determined layout.differencing_at.ended (λ _. layout.differencing_at.clauses)
+layout-differencing-at _ 𝓤 _ _ _ _ _ _ _ _ _ _ _ _ = one 𝓤 (λ p q. (alike p q, refl))
 
-pub packing-layout-of : Determined packing.layout_of.ended (λ _. packing.layout_of.clauses)
-packing-layout-of _ 𝓤 _ _ _ _ _ _ _ _ _ _ _ _ = one 𝓤 (λ p q. (alike p q, refl))
+pub layout-layout-of : Determined layout.layout_of.ended (λ _. layout.layout_of.clauses)
+layout-layout-of _ 𝓤 _ _ _ _ _ _ _ _ _ _ _ _ = one 𝓤 (λ p q. (alike p q, refl))
 
-pub packing-stored : Determined packing.stored.ended (λ _. packing.stored.clauses)
-packing-stored _ 𝓤 _ _ _ _ _ _ _ _ _ _ _ _ = one 𝓤 (λ p q. (alike (p .0) (q .0), refl))
+pub layout-stored : Determined layout.stored.ended (λ _. layout.stored.clauses)
+layout-stored _ 𝓤 _ _ _ _ _ _ _ _ _ _ _ _ = one 𝓤 (λ p q. (alike (p .0) (q .0), refl))
 
-pub packing-width-of : Determined packing.width_of.ended (λ _. packing.width_of.clauses)
-packing-width-of _ 𝓤 _ _ _ _ _ _ _ _ _ _ _ _ = one 𝓤 (λ p q. (alike p q, refl))
+pub layout-width-of : Determined layout.width_of.ended (λ _. layout.width_of.clauses)
+layout-width-of _ 𝓤 _ _ _ _ _ _ _ _ _ _ _ _ = one 𝓤 (λ p q. (alike p q, refl))
 
-pub packing-length-of : Determined packing.length_of.ended (λ _. packing.length_of.clauses)
-packing-length-of _ 𝓤 _ _ _ _ _ _ _ _ _ _ _ _ = one 𝓤 (λ p q. (alike (p .0) (q .0), refl))
+pub layout-length-of : Determined layout.length_of.ended (λ _. layout.length_of.clauses)
+layout-length-of _ 𝓤 _ _ _ _ _ _ _ _ _ _ _ _ = one 𝓤 (λ p q. (alike (p .0) (q .0), refl))
 
 pub packing-is-packed : Determined packing.is_packed.ended (λ _. packing.is_packed.clauses)
 packing-is-packed _ 𝓤 _ _ _ _ _ _ _ _ _ _ _ _ = one 𝓤 (λ p q. (alike p q, refl))

@@ -1,3 +1,3 @@
--- What holds of the runs of a section 7 and of the groups that it has.
+-- What holds of the groups that a section 7 has, and of its length.
 pub mod Laws
 mod Planned

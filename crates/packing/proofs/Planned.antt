@@ -6,9 +6,10 @@ use Prim.Native.Nat.{ℕ, _+_, _*_, _^_, _≤_, _<_}
 use native.Mathlib.Nat.{mul-le-mul-right}
 use native.Mathlib.Omega.{arith}
 use Rattle.grouping.specs.declared.Grouping.{Grouping}
-use Rattle.packing.specs.declared.Layout.{Layout}
+use Rattle.layout.specs.declared.Layout.{Layout}
+use Rattle.layout.specs.Runs.{widthOf, lengthOf}
 use Rattle.packing.specs.declared.Plan.the-variants as Plan
-use Rattle.packing.specs.Packing.{widthOf, lengthOf, valuesBefore, bitsBefore, areSound, planOf}
+use Rattle.packing.specs.Packing.{valuesBefore, bitsBefore, areSound, planOf}
 use Rattle.packing.proofs.Laws.{sound-more, sound-widths, values-more, bits-more, values-mono, bits-of-values, plan-good, plan-bad}
 
 pub record Planned (run : List ℕ) (at : Layout) (g : Grouping) (n i values bits : ℕ) : Type 0 where

@@ -4,8 +4,10 @@ use mathlib.Core.Path.{_≡_, sym, ap, _∙_}
 use native.Mathlib.Omega.{arith}
 use borrow.Author.Needs.{needs}
 use Rattle.sections.specs.Sections.{octetsIn}
-use Rattle.packing.specs.Packing.{layoutOf, planOf, endsWith}
-use Rattle.packing.proofs.Laws.{Bounded, layout-bounded, too-short}
+use Rattle.layout.specs.Runs.{layoutOf}
+use Rattle.layout.proofs.Laws.{Bounded, layout-bounded}
+use Rattle.packing.specs.Packing.{planOf, endsWith}
+use Rattle.packing.proofs.Laws.{too-short}
 use Rattle.packing.proofs.is_grouped.Statement.{statement}
 use Rattle.packing.proofs.is_grouped.Tie as tie
 

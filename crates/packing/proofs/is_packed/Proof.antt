@@ -2,8 +2,8 @@
 use Prim.Native.Nat.{_≤_}
 use native.Mathlib.Omega.{arith}
 use borrow.Author.Needs.{needs}
+use Rattle.layout.proofs.Laws.{run-fits}
 use Rattle.packing.specs.Packing.{isPacked}
-use Rattle.packing.proofs.Laws.{run-fits}
 use Rattle.packing.proofs.is_packed.Statement.{statement}
 use Rattle.packing.proofs.is_packed.Tie as tie
 

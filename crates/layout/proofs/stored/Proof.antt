@@ -1,10 +1,10 @@
--- `packing::stored` meets its contract: what is taken is the number at that place of the run, and 31 bits hold it.
+-- `layout::stored` meets its contract: what is taken is the number at that place of the run, and 31 bits hold it.
 use Prim.Native.Nat.{_*_, _^_, _<_}
 use native.Mathlib.Omega.{arith}
 use borrow.Author.Needs.{needs}
-use Rattle.packing.proofs.Laws.{run-fits, stored-fits}
-use Rattle.packing.proofs.stored.Statement.{statement}
-use Rattle.packing.proofs.stored.Tie as tie
+use Rattle.layout.proofs.Laws.{run-fits, stored-fits}
+use Rattle.layout.proofs.stored.Statement.{statement}
+use Rattle.layout.proofs.stored.Tie as tie
 
 first-bit-requires : tie.Need-first-bit-requires
 first-bit-requires c κs = search needs

@@ -1,11 +1,11 @@
--- `packing::length_of` meets its contract: the last group has the length that section 5 tells, and the others theirs by the number stored.
+-- `layout::length_of` meets its contract: the last group has the length that section 5 tells, and the others theirs by the number stored.
 use Prim.Native.Nat.{_-_, _*_, _^_, _<_}
 use native.Mathlib.Omega.{arith}
 use borrow.Author.Tests.{eq-eqb, ne-eqb}
 use borrow.Author.Needs.{needs}
-use Rattle.packing.proofs.Laws.{increments-fit}
-use Rattle.packing.proofs.length_of.Statement.{statement}
-use Rattle.packing.proofs.length_of.Tie as tie
+use Rattle.layout.proofs.Laws.{increments-fit}
+use Rattle.layout.proofs.length_of.Statement.{statement}
+use Rattle.layout.proofs.length_of.Tie as tie
 
 add-if1 : tie.Need-add-if1
 add-if1 c = search needs

@@ -1,10 +1,10 @@
--- `packing::differencing_at` meets its contract: the three numbers are those that the section's octets hold, and one of at most four octets
+-- `layout::differencing_at` meets its contract: the three numbers are those that the section's octets hold, and one of at most four octets
 -- fits 32 bits.
 use native.Mathlib.Omega.{arith}
 use borrow.Author.Needs.{needs}
-use Rattle.packing.proofs.Laws.{fits-four}
-use Rattle.packing.proofs.differencing_at.Statement.{statement}
-use Rattle.packing.proofs.differencing_at.Tie as tie
+use Rattle.layout.proofs.Laws.{fits-four}
+use Rattle.layout.proofs.differencing_at.Statement.{statement}
+use Rattle.layout.proofs.differencing_at.Tie as tie
 
 add-t10 : tie.Need-add-t10
 add-t10 c = search needs

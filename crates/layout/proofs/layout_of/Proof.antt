@@ -1,10 +1,10 @@
--- `packing::layout_of` meets its contract: each run starts where the one before it ends, and the last start is a small number.
+-- `layout::layout_of` meets its contract: each run starts where the one before it ends, and the last start is a small number.
 use native.Mathlib.Omega.{arith}
 use borrow.Author.Needs.{needs}
-use Rattle.packing.specs.Packing.{layoutOf}
-use Rattle.packing.proofs.Laws.{Bounded, layout-bounded}
-use Rattle.packing.proofs.layout_of.Statement.{statement}
-use Rattle.packing.proofs.layout_of.Tie as tie
+use Rattle.layout.specs.Runs.{layoutOf}
+use Rattle.layout.proofs.Laws.{Bounded, layout-bounded}
+use Rattle.layout.proofs.layout_of.Statement.{statement}
+use Rattle.layout.proofs.layout_of.Tie as tie
 
 cast-t7 : tie.Need-cast-t7
 cast-t7 c = search needs

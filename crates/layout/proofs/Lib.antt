@@ -1,0 +1,2 @@
+-- What holds of the runs of a section 7.
+pub mod Laws
