@@ -3,6 +3,7 @@
 
 It starts from the promises (ROOTS) and goes on to every definition that one of them names, and to those that these name. It stops at the names that the contracts
 of the public functions cite (PINNED): the theorems say what these are, so that nobody needs to read how they are defined."""
+import glob
 import os
 import re
 import sys
@@ -127,6 +128,13 @@ def table():
     place = order()
     rows = [('%s/specs/%s.antt' % tuple(name.split('/')), len(lines)) for name, lines in believed().items()]
     return sorted(rows, key=lambda row: (place.index(row[0].split('/')[0]), row[0]))
+
+
+def all_lines():
+    """How many lines of definitions all of specs/ has, believed or not, counted in the same way."""
+    files = glob.glob(os.path.join(TOP, 'crates', '*', 'specs', '**', '*.antt'), recursive=True)
+    lines = (line for name in files for line in open(name, encoding='utf-8'))
+    return sum(1 for line in lines if line.strip() and not re.match(r'\s*--|use |(pub )?mod ', line))
 
 
 def main():

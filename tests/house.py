@@ -172,12 +172,12 @@ def outcomes_are_determined():
 
 
 def trust_is_counted():
-    """docs/TRUST.md tells the believed lines of each file, and it and the README their sum, as tests/believed.py counts them."""
+    """docs/TRUST.md tells the believed lines of each file, and it and the README their sum, as tests/believed.py counts them, and those of all definitions."""
     text = '\n'.join(lines_of('docs/TRUST.md'))
     rows = believed.table()
     if '%d lines of definitions' % sum(count for _, count in rows) not in ' '.join(lines_of('README.md')):
         yield 'README.md: not there: %d lines of definitions' % sum(count for _, count in rows)
-    wanted = ['| %s | %d |' % row for row in rows] + ['%d lines of\ndefinitions in %d files' % (sum(count for _, count in rows), len(rows))]
+    wanted = ['| %s | %d |' % row for row in rows] + ['%d lines of\ndefinitions in %d files' % (sum(count for _, count in rows), len(rows)), 'Of the %d such lines' % believed.all_lines()]
     for row in wanted:
         if row not in text:
             yield 'docs/TRUST.md: not there: ' + row.replace('\n', ' ')
