@@ -87,18 +87,17 @@ pub data Outcome : Type 0 where
   gives : ℕ → List Float → List ℕ → Outcome
   refuses : Refusal → Outcome
 
-module _ (file : List ℕ) where
-  module _ (start values presence : ℕ) where
-    -- The refusals of describe come first, then 15, and 16 is the last.
-    abbrev pub outcomeOf : Description → Outcome
-    outcomeOf d =
-        cond (hasRoom start (pointsOf (d .grid)) values presence)
-        (cond (isDecodable file d) (gives (pointsOf (d .grid)) (doublesOf file d) (marksOf file d)) (refuses (refusal Why.ValueOutOfRange (d .starts .seven .0))))
-        (refuses (refusal Why.NoRoom 0))
+module _ (file : List ℕ) (start values presence : ℕ) where
+  -- The refusals of describe come first, then 15, and 16 is the last.
+  abbrev pub outcomeOf : Description → Outcome
+  outcomeOf d =
+      cond (hasRoom start (pointsOf (d .grid)) values presence)
+      (cond (isDecodable file d) (gives (pointsOf (d .grid)) (doublesOf file d) (marksOf file d)) (refuses (refusal Why.ValueOutOfRange (d .starts .seven .0))))
+      (refuses (refusal Why.NoRoom 0))
 
-    abbrev pub outcomeBy : Described → Outcome
-    outcomeBy (Described.As d) = outcomeOf d
-    outcomeBy (Described.Refused r) = refuses r
+  abbrev pub outcomeBy : Described → Outcome
+  outcomeBy (Described.As d) = outcomeOf d
+  outcomeBy (Described.Refused r) = refuses r
 
 -- The outcome for field k, with runs of these lengths.
 abbrev pub outcome : List ℕ → ℕ → ℕ → ℕ → ℕ → Outcome
