@@ -11,13 +11,13 @@ import sys
 TOP = os.path.dirname(os.path.dirname(os.path.abspath(__file__)))
 
 # The statements of the demands, the number that C is given, and the lines that the program prints.
-ROOTS = ['demands/Questions', 'demands/Demand1', 'demands/Demand2', 'demands/Demand3', 'demands/Rebuild', 'skeptolyr/Codes', 'listed/Listing', 'outcomes/Determined']
+ROOTS = ['theorems_demands/' + name for name in ('Questions', 'Demand1', 'Demand2', 'Demand3', 'Rebuild')] + ['skeptolyr/Codes', 'listing_file/Listing', 'theorems_outcomes/Determined']
 # What check, describe, place, decode and rebuild_one answer, and what decode leaves in the runs: demands 1, 2 and 3 say what they are.
 PINNED = {
     'tiling/Tiling': {'check'},
-    'fields/Fields': {'describe', 'place'},
-    'decoding/Decoding': {'Outcome', 'outcome', 'answerOf', 'valuesAfter', 'presenceAfter'},
-    'doubles/Doubles': {'answerOf', 'valueOf'},
+    'question/Fields': {'describe', 'place'},
+    'question_decode/Decoding': {'Outcome', 'outcome', 'answerOf', 'valuesAfter', 'presenceAfter'},
+    'doubles/Doubles': {'rebuildOne', 'valueOf'},
 }
 
 HEAD = re.compile(r'\s*(?:(?:abbrev|unfoldable) )?(?:pub )?(?:(?:record|data) )?([^\s():]+)(?: \([^)]*\)| \{[^}]*\})* :(?: |$)')

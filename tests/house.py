@@ -153,7 +153,7 @@ def nothing_asked_of_users():
 
 
 def outcomes_are_determined():
-    """Every public function of a library has its theorem in crates/outcomes, of its own contract, and every theorem there has its function."""
+    """Every public function of a library has its theorem in crates/theorems_outcomes, of its own contract, and every theorem there has its function."""
     functions, theorems = {}, {}
     for name in FILES:
         crate = re.match(r'crates/([a-z0-9_]+)/src/lib\.rt$', name)
@@ -161,7 +161,7 @@ def outcomes_are_determined():
             function = re.match(r'\s*pub (?:extern "C" )?fn (\w+)', line)
             if function:
                 functions['%s.%s' % (crate.group(1), function.group(1))] = '%s:%d' % (name, number)
-        for number, line in enumerate(lines_of(name) if name.startswith('crates/outcomes/proofs/') else [], 1):
+        for number, line in enumerate(lines_of(name) if name.startswith('crates/theorems_outcomes/proofs/') else [], 1):
             theorem = re.match(r'pub (\S+) : (?:Seen)?Determined (\w+\.\w+)\.ended .*\(λ _\. (\w+\.\w+)\.clauses\)$', line)
             if theorem:
                 theorems[theorem.group(2)] = '%s:%d' % (name, number)
@@ -181,7 +181,7 @@ def trust_is_counted():
     for row in wanted:
         if row not in text:
             yield 'docs/TRUST.md: not there: ' + row.replace('\n', ' ')
-    for row in re.findall(r'^\| [a-z_]+/specs/.*\|$', text, re.M):
+    for row in re.findall(r'^\| [a-z0-9_]+/specs/.*\|$', text, re.M):
         if row not in wanted:
             yield 'docs/TRUST.md: not so: ' + row
 
@@ -190,14 +190,14 @@ def demands_name_what_is_there():
     """docs/DEMANDS.md names every must-fail edit, and each edit, function, definition and theorem that it or docs/TRUST.md names is there."""
     text = '\n'.join(lines_of('docs/DEMANDS.md') + lines_of('docs/TRUST.md'))
     edits = {re.sub(r'crates/(.*)/must-fail/(.*)\.edit', r'\1/\2', name) for name in FILES if '/must-fail/' in name}
-    named = set(re.findall(r'`([a-z]+/[a-z0-9_]+)`', text))
+    named = set(re.findall(r'`([a-z0-9_]+/[a-z0-9_]+)`', text))
     for edit in sorted(edits ^ named):
         yield 'docs: %s %s' % (edit, 'is not named' if edit in edits else 'is no edit')
-    for crate, function in sorted(set(re.findall(r'`([a-z]+)::(\w+)`', text))):
+    for crate, function in sorted(set(re.findall(r'`([a-z0-9_]+)::(\w+)`', text))):
         name = 'crates/%s/src/lib.rt' % crate
         if name in FILES and not any(re.match(r'pub (extern "C" )?fn %s\b' % function, line) for line in lines_of(name)):
             yield 'docs: no function %s::%s' % (crate, function)
-    for names, file in re.findall(r'((?:`[^`]+`,? )+)\(([a-z]+/(?:specs|proofs)/\w+\.antt)\)', text):
+    for names, file in re.findall(r'((?:`[^`]+`,? )+)\(([a-z0-9_]+/(?:specs|proofs)/\w+\.antt)\)', text):
         lines = lines_of('crates/' + file) if 'crates/' + file in FILES else []
         for name in re.findall(r'`([^`]+)`', names):
             if not any(re.match(r'\s*(abbrev |unfoldable )*(pub )?(record |data )?%s[ :]' % re.escape(name), line) for line in lines):
@@ -235,7 +235,7 @@ def version_is_told():
 
 def sample_is_the_sample():
     """The file of two fields that theorems compute with is samples/two-fields.grib2."""
-    text = ' '.join(lines_of('crates/demands/specs/Sample.antt'))
+    text = ' '.join(lines_of('crates/theorems_demands/specs/Sample.antt'))
     parts = {name: re.findall(r'0x([0-9a-f]{2})|\b(high|low)\b', body) for name, body in re.findall(r'(\w+)(?: high low)? =\s+((?:(?:0x\w\w|high|low) ∷\s*)+)\[\]', text)}
     whole = re.search(r'twoFields = (.*?) (?:unfoldable|--)', text).group(1).split(' ++ ')
     octets = []
@@ -245,7 +245,7 @@ def sample_is_the_sample():
         octets += [int(octet or lent[word][2:], 16) for octet, word in parts[name]]
     with open('samples/two-fields.grib2', 'rb') as sample:
         if bytes(octets) != sample.read():
-            yield 'crates/demands/specs/Sample.antt'
+            yield 'crates/theorems_demands/specs/Sample.antt'
 
 
 def own_words():

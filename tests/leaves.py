@@ -1,12 +1,12 @@
 #!/usr/bin/env python3
 """The leaf layers against computations of their own.
 
-The program `ask` answers questions about doubles, bits and times. This script makes the questions at random, works out each answer in its
+The program `tests_ask` answers questions about doubles, bits and times. This script makes the questions at random, works out each answer in its
 own way (whole numbers and fractions, Python's calendar), and compares. What it shows is that the definitions, which the code is proved to
 meet, are the ones that the world uses.
 
   leaves.py           compare, and end in 'N passed, M failed'
-  leaves.py --write   write the worked examples as the program's own sample, crates/ask/stdin and stdout
+  leaves.py --write   write the worked examples as the program's own sample, crates/tests_ask/stdin and stdout
 """
 import datetime
 import os
@@ -212,7 +212,7 @@ def worked_examples():
 
 
 def main():
-    ask = os.path.join(TOP, 'crates', 'ask')
+    ask = os.path.join(TOP, 'crates', 'tests_ask')
     examples = worked_examples()
     sample = b''.join(record.ljust(RECORD, b'\0') for _, record, _ in examples)
     expected = ''.join(answer + '\n' for _, _, answer in examples).encode()
@@ -221,12 +221,12 @@ def main():
             with open(os.path.join(ask, name), 'wb') as out:
                 out.write(text)
         return 0
-    built.program('ask')
-    program = [os.path.join(TOP, 'tools', 'program'), 'ask']
+    built.program('tests_ask')
+    program = [os.path.join(TOP, 'tools', 'program'), 'tests_ask']
     results = []
     with open(os.path.join(ask, 'stdin'), 'rb') as given, open(os.path.join(ask, 'stdout'), 'rb') as wanted:
         results.append(given.read() == sample and wanted.read() == expected)
-    print('the sample of the program ask: %s' % ('as made here' if results[0] else 'not as made here; run leaves.py --write'))
+    print('the sample of the program tests_ask: %s' % ('as made here' if results[0] else 'not as made here; run leaves.py --write'))
     got = answers(program, [record for _, record, _ in examples])
     wrong = ['  %s: %s, and not %s' % (words, have, want) for (words, _, want), have in zip(examples, got) if have != want]
     print('\n'.join(['worked examples: %d, %d answered otherwise' % (len(examples), len(wrong))] + wrong))

@@ -1,4 +1,4 @@
-/* Puts each question of standard input to the crate `tell` and prints its answer, one line each.
+/* Puts each question of standard input to the crate `tests_tell` and prints its answer, one line each.
  *
  * A question is the kind (1 describe, 2 place), k, n, the length of its file and the file's octets; numbers have eight octets, the first
  * counting most. The length 2^64 - 1 stands for the file of the question before. An answer is a refusal's code, or its numbers. The file is

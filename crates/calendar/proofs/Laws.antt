@@ -5,7 +5,7 @@ use Prim.Native.Nat.{ℕ, _+_, _-_, _*_, _/_, _<_}
 use native.Mathlib.Omega.{arith}
 use borrow.Author.Tests.{leb-true, ltb-true, ltb-false, lt-ltb, le-ltb}
 use lib.Dec.{leb, ltb}
-use Rattle.octets.proofs.Cases.{split}
+use Rattle.octets.proofs.Cases.{apart, split}
 use Rattle.calendar.specs.declared.Time.{Time}
 use Rattle.calendar.specs.declared.Unit.{Unit}
 use Rattle.calendar.specs.declared.Reading.the-variants as Reading
@@ -20,7 +20,7 @@ use Rattle.calendar.proofs.Times.{gregorian-is-real, real-is-gregorian,
 pub read-is-gregorian : (xs : List ℕ) (p : ℕ) (t : Time) → timeAt xs p ≡ Reading.At t → Gregorian t
 read-is-gregorian xs p t read =
     split (isTime (octetsTime xs p)) (λ e. let same : octetsTime xs p ≡ t = cc in subst Gregorian same (time-is-gregorian _ e))
-    (λ e. let impossible : _≡_ {A = ℕ} 0 1 = cc in absurd (omega arith))
+    (λ e. apart cc)
 
 -- A Gregorian time moved on is Gregorian, where the calendar still has it.
 pub plus-is-gregorian : (t s : Time) (n : ℕ) (unit : Unit) → Gregorian t → plus t n unit ≡ Later.At s → Gregorian s
@@ -32,7 +32,7 @@ plus-is-gregorian t s n unit h e =
     (λ test.
     let same : moved ≡ s = cc in
     subst Gregorian same (real-is-gregorian real (omega arith) (leb-true _ _ test)))
-    (λ test. let impossible : _≡_ {A = ℕ} 0 1 = cc in absurd (omega arith))
+    (λ test. apart cc)
 
 -- To add n seconds and then m is to add n + m.
 pub plus-plus : (t : Time) (n m : ℕ) → Gregorian t → secondsAfter m (secondsAfter n t) ≡ secondsAfter (n + m) t

@@ -13,7 +13,7 @@ use lib.Ieee.Scale.{finite}
 use Rattle.octets.specs.declared.Signed.{Signed}
 use Rattle.octets.specs.Numbers.{wholeOf}
 use Rattle.doubles.specs.declared.Rebuilt.the-variants.{Double, Refused}
-use Rattle.doubles.specs.Doubles.{packingOf, rebuilt, valueOf, isPacked, isRebuildable, notRebuildable, answerOf}
+use Rattle.doubles.specs.Doubles.{packingOf, rebuilt, valueOf, isInRange, isRebuildable, notRebuildable, rebuildOne}
 
 odd-finite : (d : ℕ) (s : Bool) (q k l : ℕ) → finite (odd d s q k l) ≡ true
 unfolding odd
@@ -49,16 +49,16 @@ finite-widens r t =
     and-i (fits binary64 (ofBits binary32 r)) (not (isNan (ofBits binary32 r))) (fits-widens (ofBits binary32 r) (ofBits-fits binary32 r))
     (subst (λ (b : Bool). T (not b)) (sym (finite-number (ofBits binary32 r) t)) tt)
 
-pub too-large : (negative : Bool) (x : ℕ) → 2147483647 < x → isPacked (wholeOf negative x) ≡ false
+pub too-large : (negative : Bool) (x : ℕ) → 2147483647 < x → isInRange (wholeOf negative x) ≡ false
 too-large false x h = lt-leb x 2147483647 h
 too-large true zero h = absurd (not-suc-le-zero h)
 too-large true (suc x) h = refl
 
-pub below-zero : (x : ℕ) → (x ≡ 0 → ⊥) → isPacked (wholeOf true x) ≡ false
+pub below-zero : (x : ℕ) → (x ≡ 0 → ⊥) → isInRange (wholeOf true x) ≡ false
 below-zero zero h = absurd (h refl)
 below-zero (suc x) h = refl
 
-pub in-range : (x : ℕ) → x ≤ 2147483647 → isPacked (wholeOf false x) ≡ true
+pub in-range : (x : ℕ) → x ≤ 2147483647 → isInRange (wholeOf false x) ≡ true
 in-range x h = le-leb x 2147483647 h
 
 -- The double by the packing record is the double by R, E and D.
@@ -67,8 +67,8 @@ unfolding valueOf
 by-packing r e d x = refl
 
 -- The answer by the one test of the specification.
-pub refused : (r : ℕ) (e d x : Signed) → isRebuildable r e d x ≡ false → Refused notRebuildable ≡ answerOf r e d x
+pub refused : (r : ℕ) (e d x : Signed) → isRebuildable r e d x ≡ false → Refused notRebuildable ≡ rebuildOne r e d x
 refused r e d x false-test = ap (λ (b : Bool). cond b (Double (valueOf r e d (x .size))) (Refused notRebuildable)) (sym false-test)
 
-pub answered : (r : ℕ) (e d x : Signed) → isRebuildable r e d x ≡ true → Double (valueOf r e d (x .size)) ≡ answerOf r e d x
+pub answered : (r : ℕ) (e d x : Signed) → isRebuildable r e d x ≡ true → Double (valueOf r e d (x .size)) ≡ rebuildOne r e d x
 answered r e d x true-test = ap (λ (b : Bool). cond b (Double (valueOf r e d (x .size))) (Refused notRebuildable)) (sym true-test)

@@ -1,7 +1,7 @@
 -- Document 01, "From X to a double": the double as IEEE 754's operations give it, and the question that rebuilds one.
-use Prim.Native.Nat.{ℕ, _^_}
+use Prim.Native.Nat.{ℕ, _^_, _≤_}
 use mathlib.Core.Bool.{Bool, true, false, _&&_, cond}
-use lib.Dec.{leb}
+use lib.Dec.{T, leb}
 use lib.IntN.{ℤ, pos, negsuc}
 use lib.Ieee.{Float, fin, binary32, binary64, add, mul, div, ofInt, ofBits}
 use lib.Ieee.Scale.{finite}
@@ -19,6 +19,12 @@ powerOfTwo e = fin false 1 e
 
 abbrev pub powerOfTen : ℕ → Float
 powerOfTen n = fin false (5 ^ n) (pos n)
+
+-- R, E and D within the limits past which a field is refused: R is finite, E is from -127 to 127, and D from -22 to 22.
+pub record Scaled (r : ℕ) (e d : Signed) : Type 0 where
+  pub finiteR : T (finite (ofBits binary32 r))
+  pub e127 : e .size ≤ 127
+  pub d22 : d .size ≤ 22
 
 -- The packing record of R, E and D. Each of its three numbers is a double without rounding; R is the single whose bits are r.
 abbrev pub packingOf : ℕ → Signed → Signed → Packing
@@ -48,16 +54,16 @@ unfolding sumOf scaledBy
 valueOf r e d x = rebuilt (packingOf r e d) x
 
 -- X from 0 to 2,147,483,647.
-abbrev pub isPacked : ℤ → Bool
-isPacked (pos x) = leb x 2147483647
-isPacked (negsuc x) = false
+abbrev pub isInRange : ℤ → Bool
+isInRange (pos x) = leb x 2147483647
+isInRange (negsuc x) = false
 
 -- Refusal 19: R not finite, E or D past section 5's limits, or X out of its range. Its place is 0.
 abbrev pub isRebuildable : ℕ → Signed → Signed → Signed → Bool
-isRebuildable r e d x = finite (ofBits binary32 r) && leb (e .size) 127 && leb (d .size) 22 && isPacked (whole x)
+isRebuildable r e d x = finite (ofBits binary32 r) && leb (e .size) 127 && leb (d .size) 22 && isInRange (whole x)
 
 abbrev pub notRebuildable : Refusal
 notRebuildable = record { why = Why.NotRebuildable; place = record { 0 = 0 } }
 
-abbrev pub answerOf : ℕ → Signed → Signed → Signed → Rebuilt
-answerOf r e d x = cond (isRebuildable r e d x) (Double (valueOf r e d (x .size))) (Refused notRebuildable)
+abbrev pub rebuildOne : ℕ → Signed → Signed → Signed → Rebuilt
+rebuildOne r e d x = cond (isRebuildable r e d x) (Double (valueOf r e d (x .size))) (Refused notRebuildable)

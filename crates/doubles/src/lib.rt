@@ -1,11 +1,10 @@
 // From R, E, D and X to a double: the packing record, the rebuild, and the question that rebuilds one double.
 ghost use mathlib.Core.Path.{_≡_};
 ghost use Prim.Native.Nat.{_≤_};
-ghost use lib.Dec.{T};
 ghost use lib.Ieee.{binary32, ofBits};
 ghost use lib.Ieee.Scale.{finite};
 ghost use Rattle.octets.specs.Numbers.{whole};
-ghost use Rattle.doubles.specs.Doubles.{powerOfTwo, powerOfTen, packingOf, rebuilt, notRebuildable, answerOf};
+ghost use Rattle.doubles.specs.Doubles.{Scaled, powerOfTwo, powerOfTen, packingOf, rebuilt, notRebuildable, rebuildOne};
 use octets::FilePlace;
 use octets::Signed;
 use refusals::Refusal;
@@ -80,9 +79,7 @@ pub fn is_finite(r: u32) -> bool
 
 // The packing record of section 5's numbers. `r` is the single that four octets hold, by its bits.
 pub fn packing_of(r: u32, e: Signed, d: Signed) -> Packing
-    requires { ⌜ T (finite (ofBits binary32 r)) ⌝ }
-    requires { ⌜ e .size ≤ 127 ⌝ }
-    requires { ⌜ d .size ≤ 22 ⌝ }
+    requires { ⌜ Scaled r e d ⌝ }
     ensures { λ p. ⌜ p ≡ packingOf r e d ⌝ }
 {
     Packing {
@@ -116,7 +113,7 @@ fn not_rebuildable() -> Rebuilt
 
 // One double from R, E, D and X, or the refusal where R is not finite or one of the others is out of its range.
 pub fn rebuild_one(r: u32, e: Signed, d: Signed, x: Signed) -> Rebuilt
-    ensures { λ a. ⌜ a ≡ answerOf r e d x ⌝ }
+    ensures { λ a. ⌜ a ≡ rebuildOne r e d x ⌝ }
 {
     if !is_finite(r) {
         return not_rebuildable();

@@ -17,6 +17,6 @@ fn main() {
         return;
     }
     let mut text = [0u8; 655360];
-    let length = listed::list(&mut text, &input[..got]);
+    let length = listing_file::list(&mut text, &input[..got]);
     io::write_all(STDOUT_FILENO, &text[..length]);
 }

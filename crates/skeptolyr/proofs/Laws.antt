@@ -10,9 +10,9 @@ use Rattle.refusals.proofs.Laws.{Told, code-tells}
 use Rattle.tiling.specs.declared.Checked.the-variants as Checked
 use Rattle.tiling.specs.Tiling.{check}
 use Rattle.tiling.proofs.Bounds.{Small, check-bounded}
-use Rattle.decoding.specs.declared.Decoded.the-variants as Decoded
-use Rattle.decoding.specs.Decoding.{outcome, answerOf}
-use Rattle.decoding.proofs.Laws.{Small as DecodedSmall, decode-small}
+use Rattle.question_decode.specs.declared.Decoded.the-variants as Decoded
+use Rattle.question_decode.specs.Decoding.{outcome, answerOf}
+use Rattle.question_decode.proofs.Laws.{Small as DecodedSmall, decode-small}
 use Rattle.skeptolyr.specs.Codes.{checkCode, decodeCode}
 
 -- The top bit of an accepted file's number is clear, and both counts come back by division and remainder.

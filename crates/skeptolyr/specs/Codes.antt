@@ -4,8 +4,8 @@ use Prim.Native.Nat.{ℕ, _+_, _*_, _^_}
 use Rattle.refusals.specs.Refusals.{codeOf}
 use Rattle.tiling.specs.declared.Checked.{Checked}
 use Rattle.tiling.specs.declared.Checked.the-variants as Checked
-use Rattle.decoding.specs.declared.Decoded.{Decoded}
-use Rattle.decoding.specs.declared.Decoded.the-variants as Decoded
+use Rattle.question_decode.specs.declared.Decoded.{Decoded}
+use Rattle.question_decode.specs.declared.Decoded.the-variants as Decoded
 
 abbrev pub checkCode : Checked → ℕ
 checkCode (Checked.Counts messages fields) = messages * 2 ^ 32 + fields

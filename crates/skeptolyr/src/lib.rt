@@ -2,9 +2,9 @@
 ghost use mathlib.Core.Path.{_≡_};
 ghost use lib.ListN.{length};
 ghost use Rattle.tiling.specs.Tiling.{check};
-ghost use Rattle.decoding.specs.Decoding.{outcome, answerOf, valuesAfter, presenceAfter};
+ghost use Rattle.question_decode.specs.Decoding.{outcome, answerOf, valuesAfter, presenceAfter};
 ghost use Rattle.skeptolyr.specs.Codes.{checkCode, decodeCode};
-use decoding::Decoded;
+use question_decode::Decoded;
 use tiling::Checked;
 
 // Checks a file: messages x 2^32 + fields, or 2^63 + number x 2^32 + place.
@@ -31,7 +31,7 @@ pub extern "C" fn skeptolyr_decode(
     ensures { λ _. ⌜ now (values .exit) ≡ valuesAfter start (now (values .entry)) (outcome (now (file .entry)) k start (length (now (values .entry))) (length (now (presence .entry)))) ⌝ }
     ensures { λ _. ⌜ now (presence .exit) ≡ presenceAfter start (now (presence .entry)) (outcome (now (file .entry)) k start (length (now (values .entry))) (length (now (presence .entry)))) ⌝ }
 {
-    match decoding::decode(file, k, start, values, presence) {
+    match question_decode::decode(file, k, start, values, presence) {
         Decoded::Points(points) => points as u64,
         Decoded::Refused(refusal) => refusals::code_of(refusal),
     }

@@ -11,7 +11,7 @@ use lib.Seq.{length-take-le, take-at, drop-append-add, drop-drop, drop-cons, dro
 use borrow.Author.Tests.{ltb-true, ltb-false, eq-eqb, ne-eqb, eqb-true, eqb-false}
 use Rattle.octets.proofs.Cases.{split}
 use Rattle.calendar.specs.Calendar.{digit}
-use Rattle.rows.specs.Rows.{laid}
+use Rattle.laws_rows.specs.Rows.{laid}
 use Rattle.text.specs.Text.{Puts, spelt, decimal}
 
 -- Where nothing is put, the run and the place stay.

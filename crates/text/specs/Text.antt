@@ -7,7 +7,7 @@ use mathlib.Core.Bool.{cond}
 use mathlib.Core.List.{List, [], _∷_, _++_}
 use lib.Dec.{ltb}
 use lib.ListN.{length}
-use Rattle.rows.specs.Rows.{laid}
+use Rattle.laws_rows.specs.Rows.{laid}
 use Rattle.calendar.specs.Calendar.{digit}
 
 -- The octets of a text: the codes of its characters.

@@ -11,9 +11,9 @@ use lib.ListN.{length, getD, length-append}
 use Rattle.refusals.specs.declared.Refusal.{Refusal}
 use Rattle.refusals.specs.declared.Why.the-variants as Why
 use Rattle.refusals.specs.Refusals.{refusal}
-use Rattle.machine.specs.Machine.{go, stop, Trace, halts, steps}
-use Rattle.walk.specs.declared.Located.{Located}
-use Rattle.walk.specs.Walk.{nowhere}
+use Rattle.laws_machine.specs.Machine.{go, stop, Trace, halts, steps}
+use Rattle.tiling_sections.specs.declared.Located.{Located}
+use Rattle.tiling_sections.specs.Walk.{nowhere}
 use Rattle.tiling.specs.declared.Checked.{Checked}
 use Rattle.tiling.specs.declared.Checked.the-variants as Checked
 use Rattle.tiling.specs.declared.Found.{Found}

@@ -10,16 +10,16 @@ use lib.Dec.{ltb}
 use lib.ListN.{length, getD, length-append, List·getD-append}
 use lib.Seq.{getD-append-add}
 use Rattle.octets.specs.declared.FilePlace.{FilePlace}
-use Rattle.octets.proofs.Cases.{split}
+use Rattle.octets.proofs.Cases.{apart, split}
 use Rattle.octets.specs.Places.{at}
 use Rattle.refusals.specs.declared.Refusal.{Refusal}
 use Rattle.refusals.specs.declared.Why.the-variants as Why
 use Rattle.refusals.specs.Refusals.{refusal}
-use Rattle.walk.specs.declared.Located.{Located}
-use Rattle.walk.specs.declared.Walked.{Walked}
-use Rattle.walk.specs.declared.Walked.the-variants as Walked
-use Rattle.walk.specs.Walk as Walk
-use Rattle.walk.specs.Walk.{Tiled, nowhere, sections, counted}
+use Rattle.tiling_sections.specs.declared.Located.{Located}
+use Rattle.tiling_sections.specs.declared.Walked.{Walked}
+use Rattle.tiling_sections.specs.declared.Walked.the-variants as Walked
+use Rattle.tiling_sections.specs.Walk as Walk
+use Rattle.tiling_sections.specs.Walk.{Tiled, nowhere, sections, counted}
 use Rattle.tiling.specs.declared.Header.the-variants as Header
 use Rattle.tiling.specs.declared.Message as declared
 use Rattle.tiling.specs.declared.Message.the-variants as Told
@@ -91,10 +91,10 @@ message-taken file p k {count} {q} {hit} inside = by (message file p) refl (mess
         let ends : e ≡ q .0 = ap (λ (x : FilePlace). x .0) same in
         let counts : length fields ≡ count = cc in
         record { least = omega arith; inside = omega arith; few = omega arith; fields = fields; whole = rw ends at whole; counts = counts; found = cc }
-    by (failed r) whole bounded h = let z : _≡_ {A = ℕ} 0 1 = cc in absurd (omega arith)
+    by (failed r) whole bounded h = apart cc
 
 told-failed : (k : ℕ) (m : Message) {r : Refusal} → told k m ≡ Told.Bad r → m ≡ failed r
-told-failed k (passed q fields) {r} h = let z : _≡_ {A = ℕ} 0 1 = cc in absurd (omega arith)
+told-failed k (passed q fields) {r} h = apart cc
 told-failed k (failed f) h = cc
 
 -- Field k of two lists joined, of which the first has n fields.

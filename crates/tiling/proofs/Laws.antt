@@ -10,17 +10,17 @@ use borrow.Author.Tests.{eq-eqb, ne-eqb, eqb-true, eqb-false, lt-ltb, le-ltb, lt
 use lib.Dec.{ltb, eqb}
 use lib.ListN.{length}
 use Rattle.octets.specs.declared.FilePlace.{FilePlace}
-use Rattle.octets.proofs.Cases.{split}
+use Rattle.octets.proofs.Cases.{apart, split}
 use Rattle.octets.specs.Places.{at}
 use Rattle.refusals.specs.declared.Refusal.{Refusal}
 use Rattle.refusals.specs.declared.Why.the-variants as Why
 use Rattle.refusals.specs.Refusals.{refusal}
-use Rattle.machine.specs.Machine.{Next, go, stop, Trace, halts, steps}
-use Rattle.machine.proofs.Laws.{run-go, run-stop, run-trace, trace-run}
-use Rattle.walk.specs.declared.Located.{Located}
-use Rattle.walk.specs.Walk as Walk
-use Rattle.walk.specs.Walk.{Tiled, sections}
-use Rattle.walk.proofs.Laws.{Within, fields-within}
+use Rattle.laws_machine.specs.Machine.{Next, go, stop, Trace, halts, steps}
+use Rattle.laws_machine.proofs.Laws.{run-go, run-stop, run-trace, trace-run}
+use Rattle.tiling_sections.specs.declared.Located.{Located}
+use Rattle.tiling_sections.specs.Walk as Walk
+use Rattle.tiling_sections.specs.Walk.{Tiled, sections}
+use Rattle.tiling_sections.proofs.Laws.{Within, fields-within}
 use Rattle.tiling.specs.declared.Header.{Header}
 use Rattle.tiling.specs.declared.Header.the-variants as Header
 use Rattle.tiling.specs.declared.Checked.the-variants as Checked
@@ -231,5 +231,5 @@ module _ (file : List ℕ) where
   check-placed {f} = by (outcome file) whole
     where
       by : (o : Outcome) → Whole o → checked o ≡ Checked.Refused f → Placed f
-      by (tiled m fields) w h = let z : _≡_ {A = ℕ} 0 1 = cc in absurd (omega arith)
+      by (tiled m fields) w h = apart cc
       by (refused g) w h = let same : g ≡ f = cc in subst Placed same (outcome-placed w)

@@ -9,10 +9,10 @@ use Rattle.octets.specs.Numbers.{numberAt}
 use Rattle.refusals.specs.declared.Refusal.{Refusal}
 use Rattle.refusals.specs.declared.Why.the-variants as Why
 use Rattle.refusals.specs.Refusals.{refusal}
-use Rattle.machine.specs.Machine.{Next, go, stop, run}
-use Rattle.walk.specs.declared.Located.{Located}
-use Rattle.walk.specs.Walk as Walk
-use Rattle.walk.specs.Walk.{Tiled, nowhere, sections}
+use Rattle.laws_machine.specs.Machine.{Next, go, stop, run}
+use Rattle.tiling_sections.specs.declared.Located.{Located}
+use Rattle.tiling_sections.specs.Walk as Walk
+use Rattle.tiling_sections.specs.Walk.{Tiled, nowhere, sections}
 use Rattle.tiling.specs.declared.Header.{Header}
 use Rattle.tiling.specs.declared.Header.the-variants as Header
 use Rattle.tiling.specs.declared.Message as declared

@@ -9,8 +9,8 @@ use octets::FilePlace;
 use octets::OctetNumber;
 use refusals::Refusal;
 use refusals::Why;
-use walk::Located;
-use walk::Walked;
+use tiling_sections::Located;
+use tiling_sections::Walked;
 
 // What steps a to e say of the message at a place: where its sections end, or the fault.
 pub enum Header {
@@ -63,13 +63,13 @@ pub fn header_at(file: &[u8], at: FilePlace) -> Header
     if left < 16 {
         return bad(Why::Cut, at);
     }
-    if sections::held(file, at, OctetNumber(1), OctetNumber(4)) != 0x4752_4942 {
+    if section::held(file, at, OctetNumber(1), OctetNumber(4)) != 0x4752_4942 {
         return bad(Why::NotGrib2, at);
     }
-    if sections::held(file, at, OctetNumber(8), OctetNumber(8)) != 2 {
+    if section::held(file, at, OctetNumber(8), OctetNumber(8)) != 2 {
         return bad(Why::NotGrib2, at);
     }
-    let length = sections::held(file, at, OctetNumber(9), OctetNumber(16)) as usize;
+    let length = section::held(file, at, OctetNumber(9), OctetNumber(16)) as usize;
     if length < 20 {
         return bad(Why::BadLength, at);
     }
@@ -91,7 +91,7 @@ pub fn message_at(file: &[u8], at: FilePlace, k: usize) -> Message
     match header_at(file, at) {
         Header::Sections(end) => {
             let start = FilePlace(at.0 + 16);
-            match walk::fields_in(file, start, end, k) {
+            match tiling_sections::fields_in(file, start, end, k) {
                 Walked::Fields { count, hit } => {
                     let next = FilePlace(end.0 + 4);
                     Message::Passed { count, next, hit }
@@ -124,7 +124,7 @@ fn tile(file: &[u8], k: usize) -> Tiles
     let mut at = FilePlace(0);
     let mut messages: usize = 0;
     let mut fields: usize = 0;
-    let mut found = walk::nowhere();
+    let mut found = tiling_sections::nowhere();
     while at.0 < file.len() {
         match message_at(file, at, from_here(k, fields)) {
             Message::Passed { count, next, hit } => {

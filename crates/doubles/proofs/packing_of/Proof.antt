@@ -6,10 +6,10 @@ use Rattle.doubles.proofs.packing_of.Statement.{statement}
 use Rattle.doubles.proofs.packing_of.Tie as tie
 
 float-from-bits-t4 : tie.Need-float-from-bits-t4
-float-from-bits-t4 c = finite-pattern (c .args .r) (c .pre .0)
+float-from-bits-t4 c = finite-pattern (c .args .r) (c .pre .finiteR)
 
 float-to-float-t5 : tie.Need-float-to-float-t5
-float-to-float-t5 c = finite-widens (c .before .args .r) (c .before .pre .0)
+float-to-float-t5 c = finite-widens (c .before .args .r) (c .before .pre .finiteR)
 
 power-of-two-requires : tie.Need-power-of-two-requires
 power-of-two-requires c κs = search needs

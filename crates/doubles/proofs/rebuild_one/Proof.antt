@@ -10,7 +10,7 @@ use borrow.Author.Tests.{le-leb, lt-leb, not-true, not-false}
 use Rattle.octets.specs.Numbers.{whole, wholeOf}
 use Rattle.doubles.specs.declared.Packing.{Packing}
 use Rattle.doubles.specs.declared.Rebuilt.the-variants.{Double}
-use Rattle.doubles.specs.Doubles.{rebuilt, isPacked, isRebuildable}
+use Rattle.doubles.specs.Doubles.{rebuilt, isInRange, isRebuildable}
 use Rattle.doubles.proofs.Answers.{too-large, below-zero, in-range, by-packing, refused, answered}
 use Rattle.doubles.proofs.rebuild_one.Statement.{statement}
 use Rattle.doubles.proofs.rebuild_one.Tie as tie
@@ -51,7 +51,7 @@ not-rebuildable-requires-4 : tie.Need-not-rebuildable-requires-4
 not-rebuildable-requires-4 c κs = search needs
 
 -- Behind the third test all turns on X.
-by-x : (c : tie.Else3) → let a = c .before .before .before .before .before .before .args in isRebuildable (a .r) (a .e) (a .d) (a .x) ≡ isPacked (whole (a .x))
+by-x : (c : tie.Else3) → let a = c .before .before .before .before .before .before .args in isRebuildable (a .r) (a .e) (a .d) (a .x) ≡ isInRange (whole (a .x))
 by-x c = simp (is-finite (c .before .before .before .before), le-leb _ _ (c .before .before .if2 .left), le-leb _ _ (c .if3 .left))
 
 returns-4 : tie.Need-returns-4
@@ -70,12 +70,12 @@ returns-5 c =
     let a = k .before .before .before .before .before .before .before .before .before .args in
     c .not-rebuildable5 .ensures
     ∙ refused (a .r) (a .e) (a .d) (a .x)
-    (by-x (k .before .before .before) ∙ ap (λ (b : Bool). isPacked (wholeOf b (a .x .size))) (k .if5 .taken) ∙ below-zero (a .x .size) (c .before .if6 .taken))
+    (by-x (k .before .before .before) ∙ ap (λ (b : Bool). isInRange (wholeOf b (a .x .size))) (k .if5 .taken) ∙ below-zero (a .x .size) (c .before .if6 .taken))
 
 packing-of-requires : tie.Need-packing-of-requires
 packing-of-requires c κs =
     let k = c .before .before .before in
-    (subst T (sym (is-finite (k .before .before .before .before))) tt, (k .before .before .if2 .left, k .if3 .left))
+    record { finiteR = subst T (sym (is-finite (k .before .before .before .before))) tt; e127 = k .before .before .if2 .left; d22 = k .if3 .left }
 
 cast-rebuild : tie.Need-cast-rebuild
 cast-rebuild c = search needs
@@ -84,7 +84,7 @@ rebuild-requires : tie.Need-rebuild-requires
 rebuild-requires c κs = search needs
 
 -- Behind the last test X is in its range: it is below zero by its sign only where its size is 0.
-is-packed : (c : tie.Joined5) → isPacked (whole (c .before .before .before .before .before .before .before .before .before .args .x)) ≡ true
+is-packed : (c : tie.Joined5) → isInRange (whole (c .before .before .before .before .before .before .before .before .before .args .x)) ≡ true
 is-packed c = ⊎-elim (λ w. simp (w .0 .taken, w .2 .left)) (λ w. simp (w .left, in-range _ (c .before .if4 .left))) (c .if5 .came)
 
 returns-6 : tie.Need-returns-6

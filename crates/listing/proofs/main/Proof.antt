@@ -4,8 +4,8 @@ use Prim.Native.Nat.{_≤_}
 use lib.ListN.{length}
 use lib.Seq.{length-take-le}
 use borrow.Author.Needs.{needs}
-use Rattle.listed.specs.Listing.{listingOf}
-use Rattle.listed.proofs.Laws.{start-inside}
+use Rattle.listing_file.specs.Listing.{listingOf}
+use Rattle.listing_file.proofs.Laws.{start-inside}
 use Rattle.listing.proofs.main.Statement.{statement}
 use Rattle.listing.proofs.main.Tie as tie
 

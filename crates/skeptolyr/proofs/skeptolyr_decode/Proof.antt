@@ -3,8 +3,8 @@ use mathlib.Core.Path.{ap, sym, subst, _∙_}
 use native.Mathlib.Omega.{arith}
 use borrow.Author.Needs.{needs}
 use lib.ListN.{length}
-use Rattle.decoding.specs.declared.Decoded.the-variants as Decoded
-use Rattle.decoding.proofs.Laws.{Small, decode-small}
+use Rattle.question_decode.specs.declared.Decoded.the-variants as Decoded
+use Rattle.question_decode.proofs.Laws.{Small, decode-small}
 use Rattle.skeptolyr.specs.Codes.{decodeCode}
 use Rattle.skeptolyr.proofs.skeptolyr_decode.Statement.{statement}
 use Rattle.skeptolyr.proofs.skeptolyr_decode.Tie as tie

@@ -1,0 +1,73 @@
+-- What is known of a grid that a section 3 describes: its numbers have passed the tests of a grid.
+use mathlib.Core.Path.{_≡_, refl, sym, _∙_, subst}
+use mathlib.Core.Bool.{true, _&&_}
+use mathlib.Core.List.{List}
+use Prim.Native.Nat.{ℕ, _*_, _≤_}
+use Rattle.octets.proofs.Cases.{apart, split, chosen}
+use Rattle.section.specs.Sections.{held}
+use Rattle.refusals.specs.declared.Refusal.{Refusal}
+use Rattle.refusals.specs.declared.Why.the-variants as Why
+use Rattle.refusals.specs.Refusals.{refusal}
+use Rattle.section_3_geometry.specs.declared.Grid.{Grid}
+use Rattle.section_3_geometry.specs.Geometry.{isTaken}
+use Rattle.section_3_geometry.specs.Positions.{Measured}
+use Rattle.section_3_geometry.proofs.Laws.{taken-measured, taken-points, taken-counts}
+use Rattle.section_3.specs.declared.Radius.{Radius}
+use Rattle.section_3.specs.declared.Radius.the-variants as Radius
+use Rattle.section_3.specs.declared.Gridded.{Gridded}
+use Rattle.section_3.specs.declared.Gridded.the-variants as Gridded
+use Rattle.section_3.specs.Section3.{refused, isRegular, isScanned, radiusAt, numbersAt, ofRadius, gridAt}
+use Rattle.section_3.proofs.Tests.{irregular, unscanned, by-radius, not-taken, taken}
+
+-- A grid is no refusal, and one grid alone.
+never : {r : Refusal} {g : Grid} → Gridded.Refused r ≡ Gridded.On g → ⊥
+never {r} {g} e = apart cc
+
+on-only : {f g : Grid} → Gridded.On f ≡ Gridded.On g → f ≡ g
+on-only e = cc
+
+-- A grid that is taken has points in its rows and columns, and not too many.
+abbrev Known : Grid → Type 0
+Known g = Measured g × (g .ni * g .nj ≤ 16777216) × (1 ≤ g .ni) × (g .ni ≤ 65535) × (1 ≤ g .nj) × (g .nj ≤ 65535)
+
+taken-known : (g : Grid) (points : ℕ) → isTaken g points ≡ true → Known g
+taken-known g points e =
+    let all = taken-points g points e in
+    let counts = taken-counts g points e in
+    (taken-measured g points e, rw (all .0) at (all .1), counts .0, counts .1, counts .2, counts .3)
+
+-- The grid that a section describes, by its radius.
+on : (file : List ℕ) (s : ℕ) (radius : Radius) {g : Grid} → ofRadius file s radius ≡ Gridded.On g → Known g
+on file s (Radius.Metres radius) {g} e =
+    let numbers : Grid = numbersAt file s radius in
+    let points : ℕ = held file s 7 10 in
+    split (isTaken numbers points)
+    (λ holds. let same : numbers ≡ g = on-only (sym (taken file s radius holds) ∙ e) in subst Known same (taken-known numbers points holds))
+    (λ fails. absurd (never (sym (not-taken file s radius fails) ∙ e)))
+on file s Radius.Unknown e = absurd (never e)
+
+-- A section that describes a grid describes one that is taken.
+pub grid-taken : (file : List ℕ) (s : ℕ) {g : Grid} →
+    gridAt file s ≡ Gridded.On g →
+    Measured g × (g .ni * g .nj ≤ 16777216) × (1 ≤ g .ni) × (g .ni ≤ 65535) × (1 ≤ g .nj) × (g .nj ≤ 65535)
+grid-taken file s e =
+    split (isRegular file s)
+    (λ regular.
+    split (isScanned file s)
+    (λ scanned. on file s (radiusAt file s) (sym (by-radius file s regular scanned) ∙ e))
+    (λ fails. absurd (never (sym (unscanned file s regular fails) ∙ e))))
+    (λ fails. absurd (never (sym (irregular file s fails) ∙ e)))
+
+-- A section 3 is refused by one refusal alone, which stands at it.
+abbrev RefusedAt : ℕ → Gridded → Type 0
+RefusedAt s (Gridded.On g) = Unit {0}
+RefusedAt s (Gridded.Refused r) = r ≡ refusal Why.BadGrid s
+
+radius-stands : (file : List ℕ) (s : ℕ) (radius : Radius) → RefusedAt s (ofRadius file s radius)
+radius-stands file s (Radius.Metres radius) = chosen (RefusedAt s) (isTaken (numbersAt file s radius) (held file s 7 10)) (Gridded.On (numbersAt file s radius)) (refused s) tt refl
+radius-stands file s Radius.Unknown = refl
+
+pub refused-is : (file : List ℕ) (s : ℕ) {r : Refusal} → gridAt file s ≡ Gridded.Refused r → r ≡ refusal Why.BadGrid s
+unfolding gridAt
+refused-is file s said =
+    subst (RefusedAt s) said (chosen (RefusedAt s) (isRegular file s && isScanned file s) (ofRadius file s (radiusAt file s)) (refused s) (radius-stands file s (radiusAt file s)) refl)

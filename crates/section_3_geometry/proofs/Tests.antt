@@ -1,0 +1,93 @@
+-- What each test of a grid tells of its numbers, and how large the numbers are that the tests reckon with.
+use mathlib.Core.Path.{_≡_}
+use mathlib.Core.Bool.{Bool, true, false}
+use Prim.Native.Nat.{ℕ, _+_, _*_, _^_, _≤_, _<_}
+use native.Mathlib.Nat.{mul-le-mul}
+use native.Mathlib.Omega.{arith}
+use borrow.Author.Tests.{leb-true, le-leb, eqb-true, eq-eqb}
+use lib.Dec.{leb}
+use Rattle.octets.proofs.Cases.{split, both}
+use Rattle.octets.specs.declared.Signed.{Signed}
+use Rattle.section_3_geometry.specs.declared.Position.{Position}
+use Rattle.section_3_geometry.specs.declared.Grid.{Grid}
+use Rattle.section_3_geometry.specs.Geometry.{isCounted, isPosition, isCornered, isStepped, isTaken, southOf}
+
+-- What is known of a grid whose points are counted, of a position, and of a grid whose corners are positions in order.
+pub record Counted (g : Grid) (points : ℕ) : Type 0 where
+  pub columns1 : 1 ≤ g .ni
+  pub columns65535 : g .ni ≤ 65535
+  pub rows1 : 1 ≤ g .nj
+  pub rows65535 : g .nj ≤ 65535
+  pub all : points ≡ g .ni * g .nj
+  pub most : points ≤ 16777216
+
+pub record Placed (p : Position) : Type 0 where
+  pub latitude : p .latitude .size ≤ 90000000
+  pub longitude : p .longitude ≤ 359999999
+
+pub record Cornered (g : Grid) : Type 0 where
+  pub first : Placed (g .first)
+  pub last : Placed (g .last)
+  pub southward : southOf (g .first .latitude) ≤ southOf (g .last .latitude)
+
+-- Each test tells so.
+pub counted : (g : Grid) (points : ℕ) → isCounted g points ≡ true → Counted g points
+counted g points e =
+    let most = both _ _ e in
+    let all = both _ _ (most .0) in
+    let counts = both _ _ (all .0) in
+    let columns = both _ _ (counts .0) in
+    let rows = both _ _ (counts .1) in
+    record {
+      columns1 = leb-true _ _ (columns .0);
+      columns65535 = leb-true _ _ (columns .1);
+      rows1 = leb-true _ _ (rows .0);
+      rows65535 = leb-true _ _ (rows .1);
+      all = eqb-true _ _ (all .1);
+      most = leb-true _ _ (most .1);
+    }
+
+pub not-counted : (g : Grid) (points : ℕ) → (Counted g points → ⊥) → isCounted g points ≡ false
+not-counted g points out = split (isCounted g points) (λ e. absurd (out (counted g points e))) (λ e. e)
+
+-- Where the counts hold, the greatest number of points decides.
+pub most-decides : (g : Grid) (points : ℕ) →
+    (1 ≤ g .ni) × (g .ni ≤ 65535) × (1 ≤ g .nj) × (g .nj ≤ 65535) × (points ≡ g .ni * g .nj) →
+    isCounted g points ≡ leb points 16777216
+most-decides g points h = simp (le-leb _ _ (h .0), le-leb _ _ (h .1), le-leb _ _ (h .2), le-leb _ _ (h .3), eq-eqb _ _ (h .4))
+
+pub placed : (p : Position) → isPosition p ≡ true → Placed p
+placed p e =
+    let parts = both _ _ e in
+    record { latitude = leb-true _ _ (parts .0); longitude = leb-true _ _ (parts .1) }
+
+pub cornered : (g : Grid) → isCornered g ≡ true → Cornered g
+cornered g e =
+    let southward = both _ _ e in
+    let places = both _ _ (southward .0) in
+    record { first = placed (g .first) (places .0); last = placed (g .last) (places .1); southward = leb-true _ _ (southward .1) }
+
+-- A latitude lies at most half a turn south of the north pole.
+pub south-bound : (latitude : Signed) → latitude .size ≤ 90000000 → southOf latitude ≤ 180000000
+south-bound latitude h = go (latitude .negative) (latitude .size) h
+  where
+    go : (negative : Bool) (size : ℕ) → size ≤ 90000000 → southOf (record { negative = negative; size = size }) ≤ 180000000
+    go true size h = omega arith
+    go false size h = omega arith
+
+-- The product of two numbers of 32 bits leaves room for the sum with a third in 64.
+pub product-bound : {a b : ℕ} → a < 2 ^ 32 → b < 2 ^ 32 → a * b + 2 ^ 33 ≤ 2 ^ 64 + 1
+product-bound {a} {b} h k =
+    let most : a * b ≤ 4294967295 * 4294967295 = mul-le-mul {n₂ = 4294967295} {m₂ = 4294967295} (omega arith) (omega arith) in
+    omega arith
+
+-- The three tests of a grid, in order: where the first two hold, the steps decide.
+module _ (g : Grid) (points : ℕ) where
+  pub not-counted-not-taken : isCounted g points ≡ false → isTaken g points ≡ false
+  not-counted-not-taken e = rw e
+
+  pub not-cornered-not-taken : isCounted g points ≡ true → isCornered g ≡ false → isTaken g points ≡ false
+  not-cornered-not-taken e f = rw (e, f)
+
+  pub steps-decide : isCounted g points ≡ true → isCornered g ≡ true → isTaken g points ≡ isStepped g
+  steps-decide e f = rw (e, f)

@@ -1,0 +1,208 @@
+-- The laws of bits that are set: those of a stretch of bits are the ones of the number that it holds, and where section 6 is taken, the points
+-- that it marks are as many as there are values.
+use mathlib.Core.Path.{_≡_, refl, sym, ap, _∙_, subst}
+use mathlib.Core.Bool.{Bool, true, false, cond}
+use mathlib.Core.List.{List}
+use Prim.Native.Nat.{ℕ, zero, suc, _+_, _*_, _≤_, _<_}
+use native.Mathlib.Nat.{add-zero, add-suc, lt-of-lt-of-le}
+use native.Mathlib.Numerals.{add-one}
+use native.Mathlib.Omega.{arith}
+use lib.Count.{ones, ones-cat, ones-le}
+use lib.Dec.{eqb, ltb}
+use lib.ListN.{length, getD, length-take, length-drop}
+use borrow.Author.Tests.{eq-eqb, ne-eqb, eqb-true}
+use Rattle.octets.specs.declared.FilePlace.{FilePlace}
+use Rattle.octets.specs.Places.{at}
+use Rattle.octets.specs.Numbers.{numberAt}
+use Rattle.octets.proofs.Cases.{apart, split, chosen}
+use Rattle.octets.proofs.Laws.{number-fits, fits-eight}
+use Rattle.section.specs.Sections.{Lies, octet, lengthAt}
+use Rattle.bits.specs.Bits.{bitAt, bitsAt, octetsOf}
+use Rattle.bits.proofs.Laws.{bit-lt, bits-of-octets}
+use Rattle.refusals.specs.declared.Refusal.{Refusal}
+use Rattle.refusals.specs.declared.Why.the-variants as Why
+use Rattle.refusals.specs.Refusals.{refusal}
+use Rattle.tiling_sections.specs.declared.Bitmap.{Bitmap}
+use Rattle.tiling_sections.specs.declared.Bitmap.the-variants as Bitmap
+use Rattle.section_6.specs.declared.Presence as declared
+use Rattle.section_6.specs.declared.Presence.the-variants as Presence
+use Rattle.section_6.specs.declared.Marked.{Marked}
+use Rattle.section_6.specs.declared.Marked.the-variants as Marked
+use Rattle.section_6.specs.Presence.{refused, bitmapLength, bitmapIn, onesBefore, isBitmap, ownAt, earlierAt, allAt, withoutBitmap, presenceAt, presentBefore}
+
+-- No more bits are set than there are.
+pub ones-most : (run : List ℕ) (n : ℕ) → onesBefore run n ≤ n
+unfolding onesBefore
+ones-most run zero = omega arith
+ones-most run (suc n) = omega (arith, ones-most run n, bit-lt run n)
+
+-- One bit more.
+pub ones-more : (run : List ℕ) (n : ℕ) → onesBefore run (n + 1) ≡ onesBefore run n + bitAt run n
+unfolding onesBefore
+ones-more run n = rw (add-one n)
+
+ones-of-bit : (bit : ℕ) → bit < 2 → ones bit ≡ bit
+unfolding ones
+ones-of-bit zero h = refl
+ones-of-bit (suc zero) h = refl
+ones-of-bit (suc (suc bit)) h = absurd (omega arith)
+
+-- The bits that are set among b bits are the ones of the number that these hold.
+pub ones-of-bits : (run : List ℕ) (at b : ℕ) → onesBefore run (at + b) ≡ onesBefore run at + ones (bitsAt run at b)
+unfolding onesBefore bitsAt ones
+ones-of-bits run at zero = rw (add-zero at) (omega arith)
+ones-of-bits run at (suc b) =
+    let bit : ℕ = bitAt run (at + b) in
+    let number : ℕ = bitsAt run at b in
+    let more : ones (number * 2 + bit) ≡ ones number + ones bit = ones-cat 1 number bit (bit-lt run (at + b)) in
+    rw (add-suc at b, more, ones-of-bit bit (bit-lt run (at + b)), ones-of-bits run at b) (omega arith)
+
+-- One word of eight octets more.
+pub ones-of-word : (run : List ℕ) (i : ℕ) → ((k : ℕ) → getD run k 0 < 256) → onesBefore run (64 * (i + 1)) ≡ onesBefore run (64 * i) + ones (numberAt run (8 * i) 8)
+ones-of-word run i octets =
+    let next : 64 * (i + 1) ≡ 64 * i + 64 = omega arith in
+    let start : 64 * i ≡ 8 * i * 8 = omega arith in
+    ap (onesBefore run) next
+    ∙ ones-of-bits run (64 * i) 64
+    ∙ ap (λ (at : ℕ). onesBefore run (64 * i) + ones (bitsAt run at 64)) start
+    ∙ ap (λ (number : ℕ). onesBefore run (64 * i) + ones number) (bits-of-octets run (8 * i) 8 octets)
+
+-- At most 64 bits of a word are set.
+pub ones-in-word : (run : List ℕ) (from : ℕ) → ((k : ℕ) → getD run k 0 < 256) → ones (numberAt run from 8) ≤ 64
+ones-in-word run from octets = ones-le 64 (numberAt run from 8) (lt-of-lt-of-le (number-fits run from 8 octets) (fits-eight 8 (omega arith)))
+
+-- The section 6 at p has a bitmap for so many points, of which n are present.
+pub record Fitting (file : List ℕ) (p points n : ℕ) : Type 0 where
+  pub length : lengthAt file p ≡ bitmapLength points
+  pub ones : onesBefore (bitmapIn file p points) points ≡ n
+
+module _ (file : List ℕ) (p points n : ℕ) where
+  -- The section's length decides, and then how many bits are set.
+  pub other-length : (lengthAt file p ≡ bitmapLength points → ⊥) → isBitmap file p points n ≡ false
+  other-length differs = rw (ne-eqb _ _ differs)
+
+  pub right-length : lengthAt file p ≡ bitmapLength points → isBitmap file p points n ≡ eqb (onesBefore (bitmapIn file p points) points) n
+  right-length same = rw (eq-eqb _ _ same)
+
+  -- What a bitmap tells.
+  pub is-bitmap-tells : isBitmap file p points n ≡ true → Fitting file p points n
+  is-bitmap-tells e =
+      split (eqb (lengthAt file p) (bitmapLength points)) (λ i. record { length = eqb-true _ _ i; ones = eqb-true _ _ (rw i at e) })
+      (λ i. apart (cc (rw i at e)))
+
+-- A bitmap has a bit for each point.
+pub bitmap-length : (file : List ℕ) (p points : ℕ) → Lies file p → lengthAt file p ≡ bitmapLength points → length (bitmapIn file p points) ≡ octetsOf points
+bitmap-length file p points lies same = simp (length-take, length-drop) (omega arith)
+
+-- What is known where section 6 is taken: of each case, whose bitmap it is, and that it marks n points.
+abbrev pub Told : List ℕ → ℕ → Bitmap → ℕ → ℕ → declared.Presence → Type 0
+Told file s bitmap points n Presence.All = points ≡ n
+Told file s bitmap points n (Presence.Own q) = (q ≡ at s) × Fitting file (q .0) points n
+Told file s bitmap points n (Presence.Earlier q) = (bitmap ≡ Bitmap.At q) × Fitting file (q .0) points n
+
+-- Where a test that refuses is passed, it holds, and the answer stands behind it.
+passed : (s : ℕ) (test : Bool) {answer : Marked} {p : declared.Presence} → cond test answer (refused s) ≡ Marked.As p → (test ≡ true) × (answer ≡ Marked.As p)
+passed s true e = (refl, e)
+passed s false e = apart cc
+
+module _ (file : List ℕ) (s points n : ℕ) {p : declared.Presence} where
+  own-told : (bitmap : Bitmap) → ownAt file s points n ≡ Marked.As p → Told file s bitmap points n p
+  own-told bitmap e =
+      let own = passed s (isBitmap file s points n) e in
+      let same : Presence.Own (at s) ≡ p = cc (own .1) in
+      subst (Told file s bitmap points n) same (refl, is-bitmap-tells file s points n (own .0))
+
+  earlier-told : (bitmap : Bitmap) → earlierAt file s bitmap points n ≡ Marked.As p → Told file s bitmap points n p
+  earlier-told Bitmap.Absent e = apart cc
+  earlier-told (Bitmap.At q) e =
+      let earlier = passed s (isBitmap file (q .0) points n) e in
+      let same : Presence.Earlier q ≡ p = cc (earlier .1) in
+      subst (Told file s (Bitmap.At q) points n) same (refl, is-bitmap-tells file (q .0) points n (earlier .0))
+
+  all-told : (bitmap : Bitmap) → allAt s points n ≡ Marked.As p → Told file s bitmap points n p
+  all-told bitmap e =
+      let all = passed s (eqb points n) e in
+      let same : Presence.All ≡ p = cc (all .1) in
+      subst (Told file s bitmap points n) same (eqb-true points n (all .0))
+
+-- The points present, counted one by one, are the bits of the bitmap that are set, or all points.
+pub present-all : (file : List ℕ) (points n : ℕ) → presentBefore file Presence.All points n ≡ n
+unfolding presentBefore
+present-all file points zero = refl
+present-all file points (suc n) = rw (present-all file points n) (omega arith)
+
+pub present-own : (file : List ℕ) (q : FilePlace) (points n : ℕ) → presentBefore file (Presence.Own q) points n ≡ onesBefore (bitmapIn file (q .0) points) n
+unfolding presentBefore onesBefore
+present-own file q points zero = refl
+present-own file q points (suc n) = rw (present-own file q points n)
+
+pub present-earlier : (file : List ℕ) (q : FilePlace) (points n : ℕ) → presentBefore file (Presence.Earlier q) points n ≡ onesBefore (bitmapIn file (q .0) points) n
+unfolding presentBefore onesBefore
+present-earlier file q points zero = refl
+present-earlier file q points (suc n) = rw (present-earlier file q points n)
+
+module _ (file : List ℕ) (s : ℕ) (bitmap : Bitmap) (points n : ℕ) where
+  -- A section of 6 octets whose indicator is not 0 is one without a bitmap.
+  pub without-own : lengthAt file s ≡ 6 → (octet file s 6 ≡ 0 → ⊥) → {answer : Marked} → answer ≡ withoutBitmap file s bitmap points n → answer ≡ presenceAt file s bitmap points n
+  unfolding presenceAt
+  without-own six other e = rw (six, ne-eqb _ _ other) e
+
+  -- Where section 6 is taken, all that it tells holds.
+  pub marked : {p : declared.Presence} → presenceAt file s bitmap points n ≡ Marked.As p → Told file s bitmap points n p
+  unfolding presenceAt
+  marked {p} e =
+      split (ltb (lengthAt file s) 6) (λ i. apart (cc (rw i at e)))
+      (λ i.
+      split (eqb (octet file s 6) 0) (λ j. own-told file s points n bitmap (rw (i, j) at e))
+      (λ j.
+      let six = passed s (eqb (lengthAt file s) 6) (rw (i, j) at e) in
+      split (eqb (octet file s 6) 254) (λ k. earlier-told file s points n bitmap (rw k at (six .1)))
+      (λ k. all-told file s points n bitmap (passed s (eqb (octet file s 6) 255) (rw k at (six .1)) .1))))
+
+  told-present : (p : declared.Presence) → Told file s bitmap points n p → n ≡ presentBefore file p points points
+  told-present Presence.All told = sym (present-all file points points ∙ told)
+  told-present (Presence.Own q) told = sym (present-own file q points points ∙ told .1 .ones)
+  told-present (Presence.Earlier q) told = sym (present-earlier file q points points ∙ told .1 .ones)
+
+  told-most : (p : declared.Presence) → Told file s bitmap points n p → n ≤ points
+  told-most Presence.All told = omega arith
+  told-most (Presence.Own q) told = omega (arith, told .1 .ones, ones-most (bitmapIn file (q .0) points) points)
+  told-most (Presence.Earlier q) told = omega (arith, told .1 .ones, ones-most (bitmapIn file (q .0) points) points)
+
+  -- N equals the points present.
+  pub marked-present : {p : declared.Presence} → presenceAt file s bitmap points n ≡ Marked.As p → n ≡ presentBefore file p points points
+  marked-present {p} e = told-present p (marked e)
+
+  -- N is at most the number of points.
+  pub marked-most : {p : declared.Presence} → presenceAt file s bitmap points n ≡ Marked.As p → n ≤ points
+  marked-most {p} e = told-most p (marked e)
+
+  -- The bitmap is the section's own, or the one in force, and has a bit for each point.
+  pub marked-own : {q : FilePlace} → presenceAt file s bitmap points n ≡ Marked.As (Presence.Own q) → (q ≡ at s) × (lengthAt file (q .0) ≡ bitmapLength points)
+  marked-own e = let told = marked e in (told .0, told .1 .length)
+
+  pub marked-earlier : {q : FilePlace} → presenceAt file s bitmap points n ≡ Marked.As (Presence.Earlier q) → (bitmap ≡ Bitmap.At q) × (lengthAt file (q .0) ≡ bitmapLength points)
+  marked-earlier e = let told = marked e in (told .0, told .1 .length)
+
+-- A section 6 is refused by one refusal alone, which stands at it, also where the fault is in another section's bitmap.
+abbrev RefusedAt : ℕ → Marked → Type 0
+RefusedAt s (Marked.As p) = Unit {0}
+RefusedAt s (Marked.Refused r) = r ≡ refusal Why.BadBitmap s
+
+module _ (file : List ℕ) (s points n : ℕ) where
+  earlier-stands : (bitmap : Bitmap) → RefusedAt s (earlierAt file s bitmap points n)
+  earlier-stands Bitmap.Absent = refl
+  earlier-stands (Bitmap.At p) = chosen (RefusedAt s) (isBitmap file (p .0) points n) (Marked.As (Presence.Earlier p)) (refused s) tt refl
+
+  presence-stands : (bitmap : Bitmap) → RefusedAt s (presenceAt file s bitmap points n)
+  unfolding presenceAt
+  presence-stands bitmap =
+      let own = chosen (RefusedAt s) (isBitmap file s points n) (Marked.As (Presence.Own (at s))) (refused s) tt refl in
+      let all = chosen (RefusedAt s) (eqb points n) (Marked.As Presence.All) (refused s) tt refl in
+      let all-only = chosen (RefusedAt s) (eqb (octet file s 6) 255) (allAt s points n) (refused s) all refl in
+      let without = chosen (RefusedAt s) (eqb (octet file s 6) 254) (earlierAt file s bitmap points n) _ (earlier-stands bitmap) all-only in
+      let six-octets = chosen (RefusedAt s) (eqb (lengthAt file s) 6) (withoutBitmap file s bitmap points n) (refused s) without refl in
+      chosen (RefusedAt s) (ltb (lengthAt file s) 6) (refused s) _ refl (chosen (RefusedAt s) (eqb (octet file s 6) 0) (ownAt file s points n) _ own six-octets)
+
+pub refused-is : (file : List ℕ) (s : ℕ) (bitmap : Bitmap) (points n : ℕ) {r : Refusal} → presenceAt file s bitmap points n ≡ Marked.Refused r → r ≡ refusal Why.BadBitmap s
+refused-is file s bitmap points n said = subst (RefusedAt s) said (presence-stands file s points n bitmap)

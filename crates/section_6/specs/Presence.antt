@@ -1,0 +1,87 @@
+-- Document 01, "Section 6": which points of a field are present.
+use Prim.Native.Nat.{ℕ, zero, suc, _+_}
+use mathlib.Core.Bool.{Bool, _&&_, cond}
+use mathlib.Core.Path.{_≡_}
+use mathlib.Core.List.{List}
+use lib.Dec.{eqb, ltb}
+use lib.ListN.{take, drop}
+use Rattle.octets.specs.declared.FilePlace.{FilePlace}
+use Rattle.octets.specs.Places.{at, placeOf}
+use Rattle.section.specs.Sections.{octet, lengthAt, Lies}
+use Rattle.bits.specs.Bits.{bitAt, octetsOf}
+use Rattle.refusals.specs.declared.Why.the-variants as Why
+use Rattle.refusals.specs.Refusals.{refusal}
+use Rattle.tiling_sections.specs.declared.Bitmap.{Bitmap}
+use Rattle.tiling_sections.specs.declared.Bitmap.the-variants as Bitmap
+use Rattle.section_6.specs.declared.Presence as declared
+use Rattle.section_6.specs.declared.Presence.the-variants as Presence
+use Rattle.section_6.specs.declared.Marked.{Marked}
+use Rattle.section_6.specs.declared.Marked.the-variants as Marked
+
+-- Where a bitmap is in force, the section that has it lies in the file.
+abbrev pub Stored : List ℕ → Bitmap → Type 0
+Stored file bitmap = (p : FilePlace) → bitmap ≡ Bitmap.At p → Lies file (p .0)
+
+-- Refusal 13 stands at the field's own section, also where the fault is in the bitmap that it refers to.
+abbrev pub refused : ℕ → Marked
+refused s = Marked.Refused (refusal Why.BadBitmap s)
+
+-- A bitmap has a bit for each point, from octet 7 of its section on. So the section's length is 6 octets and those of the bits.
+abbrev pub bitmapLength : ℕ → ℕ
+bitmapLength points = 6 + octetsOf points
+
+abbrev pub bitmapIn : List ℕ → ℕ → ℕ → List ℕ
+bitmapIn file p points = take (octetsOf points) (drop (placeOf p 7) file)
+
+-- The bit of a point is the bitmap's bit of that number, the top bit first: 1 where the point is present. How many of the first n are:
+unfoldable pub onesBefore : List ℕ → ℕ → ℕ
+onesBefore run zero = 0
+onesBefore run (suc n) = onesBefore run n + bitAt run n
+
+-- The section 6 at p has a bitmap for so many points, of which n are present.
+abbrev pub isBitmap : List ℕ → ℕ → ℕ → ℕ → Bool
+isBitmap file p points n = eqb (lengthAt file p) (bitmapLength points) && eqb (onesBefore (bitmapIn file p points) points) n
+
+-- Indicator 0: the section has a bitmap of its own.
+abbrev pub ownAt : List ℕ → ℕ → ℕ → ℕ → Marked
+ownAt file s points n = cond (isBitmap file s points n) (Marked.As (Presence.Own (at s))) (refused s)
+
+-- Indicator 254: the latest bitmap of the grid is used again.
+abbrev pub earlierAt : List ℕ → ℕ → Bitmap → ℕ → ℕ → Marked
+earlierAt file s Bitmap.Absent points n = refused s
+earlierAt file s (Bitmap.At p) points n = cond (isBitmap file (p .0) points n) (Marked.As (Presence.Earlier p)) (refused s)
+
+-- Indicator 255: all points are present.
+abbrev pub allAt : ℕ → ℕ → ℕ → Marked
+allAt s points n = cond (eqb points n) (Marked.As Presence.All) (refused s)
+
+-- The indicator is octet 6. A section of 5 octets has none.
+abbrev pub withoutBitmap : List ℕ → ℕ → Bitmap → ℕ → ℕ → Marked
+withoutBitmap file s bitmap points n =
+    cond (eqb (octet file s 6) 254) (earlierAt file s bitmap points n)
+    (cond (eqb (octet file s 6) 255) (allAt s points n)
+    (refused s))
+
+unfoldable pub presenceAt : List ℕ → ℕ → Bitmap → ℕ → ℕ → Marked
+presenceAt file s bitmap points n =
+    cond (ltb (lengthAt file s) 6) (refused s)
+    (cond (eqb (octet file s 6) 0) (ownAt file s points n)
+    (cond (eqb (lengthAt file s) 6) (withoutBitmap file s bitmap points n)
+    (refused s)))
+
+-- The bitmap indicator of each case.
+abbrev pub indicatorOf : declared.Presence → ℕ
+indicatorOf Presence.All = 255
+indicatorOf (Presence.Own p) = 0
+indicatorOf (Presence.Earlier p) = 254
+
+-- Is point i present? 1 where it is, and else 0.
+abbrev pub presentAt : List ℕ → declared.Presence → ℕ → ℕ → ℕ
+presentAt file Presence.All points i = 1
+presentAt file (Presence.Own p) points i = bitAt (bitmapIn file (p .0) points) i
+presentAt file (Presence.Earlier p) points i = bitAt (bitmapIn file (p .0) points) i
+
+-- How many of the first n points are present.
+unfoldable pub presentBefore : List ℕ → declared.Presence → ℕ → ℕ → ℕ
+presentBefore file p points zero = 0
+presentBefore file p points (suc n) = presentBefore file p points n + presentAt file p points n

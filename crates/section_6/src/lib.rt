@@ -1,0 +1,133 @@
+// Section 6: which points of a field are present (document 01, "Section 6").
+ghost use mathlib.Core.Path.{_≡_};
+ghost use Prim.Native.Nat.{_*_, _^_, _≤_, _<_};
+ghost use lib.ListN.{length};
+ghost use Rattle.section.specs.Sections.{Lies, lengthAt};
+ghost use Rattle.section_6.specs.Presence.{Stored, refused, bitmapLength, bitmapIn, onesBefore, isBitmap, withoutBitmap, presenceAt};
+use octets::BitPlace;
+use octets::FilePlace;
+use octets::OctetNumber;
+use refusals::Refusal;
+use refusals::Why;
+use tiling_sections::Bitmap;
+
+// Which points are present: all, those of the section's own bitmap, or those of an earlier section's. A bitmap is told by the place of the
+// section that has it.
+pub enum Presence {
+    All,
+    Own(FilePlace),
+    Earlier(FilePlace),
+}
+
+pub enum Marked {
+    As(Presence),
+    Refused(Refusal),
+}
+
+fn refused(place: FilePlace) -> Marked
+    ensures { λ r. ⌜ r ≡ refused (place .0) ⌝ }
+{
+    Marked::Refused(Refusal {
+        why: Why::BadBitmap,
+        place,
+    })
+}
+
+// The bitmap in the section 6 at `section`, as a part of the file.
+pub fn bitmap_in<'a>(file: &'a [u8], section: FilePlace, points: u32) -> &'a [u8]
+    requires { ⌜ (Lies (now file) (section .0)) × (lengthAt (now file) (section .0) ≡ bitmapLength points) ⌝ }
+    ensures { λ r. ⌜ now r ≡ bitmapIn (now (file .entry)) (section .0) points ⌝ }
+{
+    let first = octets::place_of(section, OctetNumber(7));
+    let from = first.0;
+    let end = from + bits::octets_of(points as u64) as usize;
+    &file[from..end]
+}
+
+// How many of the first 64 x `words` bits are set: a word at a time, for a bitmap is counted at every question about its field.
+fn ones_in_words(run: &[u8], words: usize) -> usize
+    requires { ⌜ (8 * words ≤ length (now run)) × (64 * words < 2 ^ 64) ⌝ }
+    ensures { λ r. ⌜ r ≡ onesBefore (now (run .entry)) (64 * words) ⌝ }
+{
+    let mut ones: usize = 0;
+    let mut i: usize = 0;
+    while i < words {
+        ones += u64::count_ones(bits::eight(run, 8 * i)) as usize;
+        i += 1;
+    }
+    ones
+}
+
+// How many of the first `n` bits are set.
+pub fn ones_before(run: &[u8], n: usize) -> usize
+    requires { ⌜ n ≤ 8 * length (now run) ⌝ }
+    ensures { λ r. ⌜ r ≡ onesBefore (now (run .entry)) n ⌝ }
+{
+    let words = n / 64;
+    let mut ones = ones_in_words(run, words);
+    let mut i = 64 * words;
+    while i < n {
+        ones += bits::bit_in(run, BitPlace(i)) as usize;
+        i += 1;
+    }
+    ones
+}
+
+// Has the section 6 at `section` a bitmap for so many points, of which `n` are present?
+fn is_bitmap(file: &[u8], section: FilePlace, points: u32, n: u32) -> bool
+    requires { ⌜ Lies (now file) (section .0) ⌝ }
+    ensures { λ r. ⌜ r ≡ isBitmap (now (file .entry)) (section .0) points n ⌝ }
+{
+    if section::length_of(file, section) as u64 != 6 + bits::octets_of(points as u64) {
+        return false;
+    }
+    ones_before(bitmap_in(file, section, points), points as usize) == n as usize
+}
+
+// A section 6 without a bitmap: indicator 254 or 255.
+fn without_bitmap(file: &[u8], at: FilePlace, bitmap: Bitmap, points: u32, n: u32) -> Marked
+    requires { ⌜ (Lies (now file) (at .0)) × (lengthAt (now file) (at .0) ≡ 6) ⌝ }
+    requires { ⌜ Stored (now file) bitmap ⌝ }
+    ensures { λ r. ⌜ r ≡ withoutBitmap (now (file .entry)) (at .0) bitmap points n ⌝ }
+{
+    match section::octet(file, at, OctetNumber(6)) {
+        254 => {
+            let Bitmap::At(earlier) = bitmap else {
+                return refused(at);
+            };
+            if !is_bitmap(file, earlier, points, n) {
+                return refused(at);
+            }
+            Marked::As(Presence::Earlier(earlier))
+        }
+        255 => {
+            if points != n {
+                return refused(at);
+            }
+            Marked::As(Presence::All)
+        }
+        _ => refused(at),
+    }
+}
+
+// Which points are present by the section 6 at `at`, where `bitmap` is in force and `n` values are packed, or refusal 13.
+pub fn presence_at(file: &[u8], at: FilePlace, bitmap: Bitmap, points: u32, n: u32) -> Marked
+    requires { ⌜ Lies (now file) (at .0) ⌝ }
+    requires { ⌜ Stored (now file) bitmap ⌝ }
+    ensures { λ r. ⌜ r ≡ presenceAt (now (file .entry)) (at .0) bitmap points n ⌝ }
+{
+    let length = section::length_of(file, at);
+    if length < 6 {
+        return refused(at);
+    }
+    if section::octet(file, at, OctetNumber(6)) == 0 {
+        if !is_bitmap(file, at, points, n) {
+            return refused(at);
+        }
+        return Marked::As(Presence::Own(at));
+    }
+    if length != 6 {
+        return refused(at);
+    }
+    without_bitmap(file, at, bitmap, points, n)
+}

@@ -1,0 +1,156 @@
+-- The proof of demand 2: what check, describe and place answer, and what decode writes, is what the standard defines.
+use mathlib.Core.Path.{_≡_, refl, sym, ap, _∙_}
+use mathlib.Core.Bool.{true}
+use mathlib.Core.List.{List}
+use Prim.Native.Nat.{ℕ, _+_, _≤_, _<_}
+use native.Mathlib.Numerals.{add-one}
+use native.Mathlib.Omega.{arith}
+use borrow.Author.Tests.{leb-true, lt-ltb, ltb-true}
+use lib.Dec.{ltb}
+use lib.IntN.{ℤ, pos, negsuc, natAbs}
+use lib.ListN.{length}
+use lib.Ieee.{nan}
+use Rattle.octets.proofs.Cases.{apart, split}
+use Rattle.laws_rows.specs.Rows.{row, laid}
+use Rattle.laws_rows.proofs.Laws.{laid-within, laid-before, laid-behind}
+use Rattle.doubles.specs.Doubles.{isInRange, packingOf, valueOf}
+use Rattle.theorems_grammar.proofs.Accepted.{counts}
+use Rattle.theorems_grammar.proofs.Unique.{unique}
+use Rattle.section_3_geometry.specs.declared.Position.{Position}
+use Rattle.section_3_geometry.specs.Positions.{pointsOf, positionOf}
+use Rattle.section_6.specs.declared.Presence as declared
+use Rattle.section_6.specs.declared.Presence.the-variants as Presence
+use Rattle.section_6.specs.Presence.{presentAt, presentBefore}
+use Rattle.values_points.specs.Points.{pointValue}
+use Rattle.values_points.proofs.Laws.{rank-mono}
+use Rattle.bits.proofs.Laws.{bit-lt}
+use Rattle.values_integers.proofs.Range.{in-range-one}
+use Rattle.question.specs.declared.Description.{Description}
+use Rattle.question.specs.declared.Described.{Described}
+use Rattle.question.specs.declared.Described.the-variants as Described
+use Rattle.question.specs.declared.Placed.the-variants as Placed
+use Rattle.question.specs.Fields.{placedIn, describe, place}
+use Rattle.question.proofs.Laws.{judged-described}
+use Rattle.question_decode.specs.declared.Decoded.the-variants as Decoded
+use Rattle.question_decode.specs.Decoding as Decoding
+use Rattle.question_decode.specs.Decoding.{packingBy, integerOf, isDecodable, presentOf, rankOf, doubleOf, hasRoom, Known, Outcome, outcome, outcomeBy, answerOf, valuesAfter, presenceAfter}
+use Rattle.question_decode.proofs.Laws.{packed-present}
+use Rattle.theorems_demands.specs.Demand2.{Present, Point, Call, answerTo, Decodes, Demand2}
+use Rattle.theorems_demands.proofs.Demand1.{described-is, described-at, roomy, clash-decoded, clash-placed}
+
+-- An answer is one alone.
+one-count : {a b : ℕ} → Decoded.Points a ≡ Decoded.Points b → a ≡ b
+one-count e = cc
+
+one-position : {a b : Position} → Placed.At a ≡ Placed.At b → a ≡ b
+one-position e = cc
+
+-- An integer in its range is a number without a sign, which it is by its size.
+own-size : (z : ℤ) → isInRange z ≡ true → (z ≡ pos (natAbs z)) × (natAbs z ≤ 2147483647)
+own-size (pos x) e = (refl, leb-true x 2147483647 e)
+own-size (negsuc x) e = apart cc
+
+-- A point is present or missing.
+one-or-zero : (file : List ℕ) (p : declared.Presence) (points i : ℕ) → presentAt file p points i < 2
+one-or-zero file Presence.All points i = omega arith
+one-or-zero file (Presence.Own s) points i = bit-lt _ i
+one-or-zero file (Presence.Earlier s) points i = bit-lt _ i
+
+module _ (file : List ℕ) (d : Description) (known : Known file d) (all : isDecodable file d ≡ true) where
+  ranked-more : (i : ℕ) → rankOf file d (i + 1) ≡ rankOf file d i + presentOf file d i
+  unfolding presentBefore
+  ranked-more i = ap (rankOf file d) (add-one i)
+
+  -- The integer of a point that is present is one of those that are packed.
+  pub present-met : (i : ℕ) → i < pointsOf (d .grid) → presentOf file d i ≡ 1 → Present file d i (doubleOf file d i)
+  unfolding valueOf
+  present-met i h mark =
+      let rank : ℕ = rankOf file d i in
+      let among : rank < d .representation .n =
+      omega (arith, packed-present file d known, ranked-more i, rank-mono (presentOf file d) (rankOf file d) ranked-more {i = i + 1} (pointsOf (d .grid)) (omega arith)) in
+      let size = own-size (integerOf file d rank) (in-range-one (integerOf file d) (d .representation .n) {j = rank} all among) in
+      record {
+        x = natAbs (integerOf file d rank);
+        standard = size .0;
+        inRange = size .1;
+        double = ap (λ (m : ℕ). pointValue (packingOf (d .representation .r) (d .representation .e) (d .representation .d)) m (natAbs (integerOf file d rank))) mark;
+      }
+
+  point-met : (i : ℕ) → i < pointsOf (d .grid) → Point file d i (doubleOf file d i) (presentOf file d i)
+  point-met i h =
+      record {
+        marked = refl;
+        oneOrZero = one-or-zero file (d .presence) (pointsOf (d .grid)) i;
+        missing = λ mark. ap (λ (m : ℕ). pointValue (packingBy (d .representation)) m (natAbs (integerOf file d (rankOf file d i)))) mark;
+        present = present-met i h;
+      }
+
+module _ (file : List ℕ) (c : Call) where
+  abbrev here : Outcome
+  here = outcome file (c .k) (c .start) (length (c .values)) (length (c .presence))
+
+  -- The values of a field are given where it is described, there is room, and each of its integers is in its range.
+  module _
+      (d : Description)
+      (said : describe file (c .k) ≡ Described.As d)
+      (room : hasRoom (c .start) (pointsOf (d .grid)) (length (c .values)) (length (c .presence)) ≡ true)
+      (all : isDecodable file d ≡ true) where
+    abbrev points : ℕ
+    points = pointsOf (d .grid)
+
+    given : here ≡ Decoding.gives points (row (doubleOf file d) points) (row (presentOf file d) points)
+    given = rw (said, room, all)
+
+    fit : (c .start + points ≤ length (c .values)) × (c .start + points ≤ length (c .presence))
+    fit = roomy (c .start) points (length (c .values)) (length (c .presence)) room
+
+    value-is : valuesAfter (c .start) (c .values) here ≡ laid (c .values) (c .start) (row (doubleOf file d) points)
+    value-is = ap (valuesAfter (c .start) (c .values)) given
+
+    mark-is : presenceAfter (c .start) (c .presence) here ≡ laid (c .presence) (c .start) (row (presentOf file d) points)
+    mark-is = ap (presenceAfter (c .start) (c .presence)) given
+
+    decodes-met : Decodes file c d
+    decodes-met =
+        record {
+          describes = said;
+          fits = fit;
+          points =
+              λ i h.
+              rw (value-is, mark-is, laid-within (c .values) (c .start) (doubleOf file d) points nan (fit .0) i h, laid-within (c .presence) (c .start) (presentOf file d) points 0 (fit .1) i h)
+              (point-met file d (c .k, said) all i h);
+          before = λ i h. rw (value-is, mark-is) (laid-before (c .values) (c .start) (doubleOf file d) points nan (fit .0) i h, laid-before (c .presence) (c .start) (presentOf file d) points 0 (fit .1) i h);
+          behind = λ i h. rw (value-is, mark-is) (laid-behind (c .values) (c .start) (doubleOf file d) points nan (fit .0) i h, laid-behind (c .presence) (c .start) (presentOf file d) points 0 (fit .1) i h);
+        }
+
+  -- A call that answers with a count has decoded the field.
+  pub decoded : (n : ℕ) → answerTo file c ≡ Decoded.Points n → (d : Description) × Decodes file c d × (pointsOf (d .grid) ≡ n)
+  decoded n = by (describe file (c .k)) refl
+    where
+      by : (a : Described) → describe file (c .k) ≡ a → answerOf (outcomeBy file (c .start) (length (c .values)) (length (c .presence)) a) ≡ Decoded.Points n → (d : Description) × Decodes file c d × (pointsOf (d .grid) ≡ n)
+      by (Described.As d) said e =
+          split (hasRoom (c .start) (pointsOf (d .grid)) (length (c .values)) (length (c .presence)))
+          (λ room.
+          split (isDecodable file d)
+          (λ all. (d, decodes-met d said room all, one-count (rw (room, all) at e)))
+          (λ fails. clash-decoded (sym (rw (room, fails) at e))))
+          (λ none. clash-decoded (sym (rw none at e)))
+      by (Described.Refused r) said e = clash-decoded (sym e)
+
+-- Where a point lies.
+placed-is : (file : List ℕ) (k n : ℕ) (p : Position) → place file k n ≡ Placed.At p → (d : Description) × (describe file k ≡ Described.As d) × (n < pointsOf (d .grid)) × (positionOf (d .grid) n ≡ p)
+placed-is file k n p = by (describe file k) refl
+  where
+    by : (a : Described) → describe file k ≡ a → placedIn n a ≡ Placed.At p → (d : Description) × (describe file k ≡ Described.As d) × (n < pointsOf (d .grid)) × (positionOf (d .grid) n ≡ p)
+    by (Described.As d) said e = split (ltb n (pointsOf (d .grid))) (λ there. (d, said, ltb-true n _ there, one-position (rw there at e))) (λ behind. clash-placed (sym (rw behind at e)))
+    by (Described.Refused r) said e = clash-placed (sym e)
+
+pub demand-2 : (file : List ℕ) → Demand2 file
+demand-2 file =
+    record {
+      accepts = counts file;
+      one = unique;
+      describes = λ k d. (λ said. described-at file k said, λ h. described-is file (h .1) ∙ judged-described file (h .0) (h .2));
+      places = λ k n p. (placed-is file k n p, λ h. rw (h .1, lt-ltb n (pointsOf (h .0 .grid)) (h .2)) (ap Placed.At (h .3)));
+      decodes = decoded file;
+    }

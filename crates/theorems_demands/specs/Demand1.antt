@@ -1,0 +1,152 @@
+-- Demand 1: a question is answered in full, or refused with one number and place: the first in document 01's order whose condition holds. A refused
+-- call alters nothing that was lent. (That every call ends, and stays inside what it was lent, is proved of each function by the checker itself.)
+use Prim.Native.Nat.{ℕ, _+_, _≤_, _<_}
+use mathlib.Core.Path.{_≡_}
+use mathlib.Core.Bool.{false, cond, _&&_}
+use mathlib.Core.List.{List}
+use mathlib.Core.Logic.{_↔_}
+use lib.Dec.{leb}
+use lib.ListN.{length, getD}
+use lib.Ieee.{Float}
+use Rattle.refusals.specs.declared.Refusal.{Refusal}
+use Rattle.refusals.specs.declared.Why.the-variants as Why
+use Rattle.refusals.specs.Refusals.{refusal, numberOf}
+use Rattle.tiling_sections.specs.declared.Located.{Located}
+use Rattle.tiling_sections.specs.Walk.{nowhere}
+use Rattle.tiling.specs.Tiling.{largest}
+use Rattle.theorems_grammar.specs.Grammar.{Accepted}
+use Rattle.theorems_grammar.specs.Refusals.{Before, Faulty}
+use Rattle.section_1.specs.declared.Identification.{Identification}
+use Rattle.section_1.specs.declared.Identified.the-variants as Identified
+use Rattle.section_3_geometry.specs.declared.Grid.{Grid}
+use Rattle.section_3_geometry.specs.Positions.{pointsOf}
+use Rattle.section_3.specs.declared.Gridded.the-variants as Gridded
+use Rattle.section_4.specs.declared.Defined.the-variants as Defined
+use Rattle.section_5.specs.declared.Representation.{Representation}
+use Rattle.section_5.specs.declared.Represented.the-variants as Represented
+use Rattle.section_6.specs.declared.Marked.the-variants as Marked
+use Rattle.doubles.specs.Doubles as Doubles
+use Rattle.values_integers.specs.Integers.{integerAt}
+use Rattle.question.specs.Judged.{identificationOf, gridOf, productOf, representationOf, presenceOf, isPackedAs}
+use Rattle.question_decode.specs.Decoding.{Outcome, outcome, valuesAfter, presenceAfter}
+use Rattle.theorems_demands.specs.Questions.{Question, verdict, describe, place, decode, answered, refused}
+
+-- Field k of the file lies at l: the grammar accepts the file, and l is the place of its field k, counted from 0 over all messages.
+pub record FieldAt (file : List ℕ) (k : ℕ) (l : Located) : Type 0 where
+  pub messages : ℕ
+  pub fields : List Located
+  pub accepted : Accepted file messages fields
+  pub below : k < length fields
+  pub lies : getD fields k nowhere ≡ l
+
+-- The field number that a question names. Check names none.
+pub data Names : Question → ℕ → Type 0 where
+  describes : {k : ℕ} → Names (describe k) k
+  places : {k n : ℕ} → Names (place k n) k
+  decodes : {k start values presence : ℕ} → Names (decode k start values presence) k
+
+-- It is about the field of that number, which lies at l.
+pub record About (file : List ℕ) (q : Question) (l : Located) : Type 0 where
+  pub k : ℕ
+  pub names : Names q k
+  pub lies : FieldAt file k l
+
+-- What else a question asks: the point that is to be placed, or the start index and the lengths of the runs.
+pub data AsksPoint : Question → ℕ → Type 0 where
+  asks : {k n : ℕ} → AsksPoint (place k n) n
+
+pub data Lends : Question → ℕ → ℕ → ℕ → Type 0 where
+  lends : {k start values presence : ℕ} → Lends (decode k start values presence) start values presence
+
+-- Document 01, "Refusals by number": the condition under which each refusal applies to a question, and its place. Each is stated for itself, whatever else
+-- is wrong: where a section cannot be judged without what another says, that one is taken.
+pub data Applies (file : List ℕ) (q : Question) : Refusal → Type 0 where
+  -- 1 and 2: the length of the file.
+  too-long : largest < length file → Applies file q (refusal Why.TooLong 0)
+  empty : length file ≡ 0 → Applies file q (refusal Why.Empty 0)
+  -- 3 to 7: messages tile the file up to p, and what stands at p is none. Its first fault, in the order of the file, is given.
+  tiling : {p : ℕ} {r : Refusal} → Before file p → p < length file → Faulty file p r → Applies file q r
+  -- 8: the file is accepted, and has no field k.
+  no-such-field : {k m : ℕ} {fs : List Located} → Names q k → Accepted file m fs → length fs ≤ k → Applies file q (refusal Why.NoSuchField 0)
+  -- 9 and 10: section 1 or 3 in force for the field is not taken.
+  section-1 : {l : Located} {f : Refusal} → About file q l → identificationOf file l ≡ Identified.Refused f → Applies file q (refusal Why.BadIdentification (l .starts .one .0))
+  section-3 : {l : Located} {f : Refusal} → About file q l → gridOf file l ≡ Gridded.Refused f → Applies file q (refusal Why.BadGrid (l .starts .three .0))
+  -- 11: section 4 is not taken, with the reference time of section 1.
+  section-4 :
+      {l : Located} {i : Identification} {f : Refusal} →
+      About file q l →
+      identificationOf file l ≡ Identified.As i →
+      productOf file l (i .reference) ≡ Defined.Refused f →
+      Applies file q (refusal Why.BadProduct (l .starts .four .0))
+  -- 12: section 5 is not taken.
+  section-5 : {l : Located} {f : Refusal} → About file q l → representationOf file l ≡ Represented.Refused f → Applies file q (refusal Why.BadRepresentation (l .starts .five .0))
+  -- 13: section 6 is not taken, with the points of section 3 and the N of section 5.
+  section-6 :
+      {l : Located} {g : Grid} {r : Representation} {f : Refusal} →
+      About file q l →
+      gridOf file l ≡ Gridded.On g →
+      representationOf file l ≡ Represented.By r →
+      presenceOf file l (pointsOf g) (r .n) ≡ Marked.Refused f →
+      Applies file q (refusal Why.BadBitmap (l .starts .six .0))
+  -- 14: the group plan or the length of section 7 is not as section 5 says.
+  section-7 :
+      {l : Located} {r : Representation} →
+      About file q l →
+      representationOf file l ≡ Represented.By r →
+      isPackedAs file l r ≡ false →
+      Applies file q (refusal Why.BadPacking (l .starts .seven .0))
+  -- 15: the points do not fit into both runs from the start index on.
+  no-room :
+      {l : Located} {g : Grid} {start values presence : ℕ} →
+      About file q l →
+      Lends q start values presence →
+      gridOf file l ≡ Gridded.On g →
+      ((start + pointsOf g ≤ values) × (start + pointsOf g ≤ presence) → ⊥) →
+      Applies file q (refusal Why.NoRoom 0)
+  -- 16: one of the N integers X that decode rebuilds is below 0 or above 2,147,483,647.
+  out-of-range :
+      {l : Located} {r : Representation} {start values presence m : ℕ} →
+      About file q l →
+      Lends q start values presence →
+      representationOf file l ≡ Represented.By r →
+      m < r .n →
+      Doubles.isInRange (integerAt file (l .starts .seven .0) r m) ≡ false →
+      Applies file q (refusal Why.ValueOutOfRange (l .starts .seven .0))
+  -- 17: the field has no point n.
+  no-such-point :
+      {l : Located} {g : Grid} {n : ℕ} →
+      About file q l →
+      AsksPoint q n →
+      gridOf file l ≡ Gridded.On g →
+      pointsOf g ≤ n →
+      Applies file q (refusal Why.NoSuchPoint 0)
+
+-- The order: the lowest number that applies is given, but 3 to 7 share a rank, since the file's own order decides among them.
+abbrev ranked : ℕ → ℕ
+ranked number = cond (leb 3 number && leb number 7) 3 number
+
+abbrev pub rank : Refusal → ℕ
+rank r = ranked (numberOf (r .why))
+
+-- The refusal that document 01 gives: it applies, and none of those that apply comes before it.
+pub record First (file : List ℕ) (q : Question) (r : Refusal) : Type 0 where
+  pub applies : Applies file q r
+  pub lowest : (s : Refusal) → Applies file q s → rank r ≤ rank s
+
+-- Decode leaves both runs as they were.
+abbrev pub Untouched : ℕ → List Float → List ℕ → Outcome → Type 0
+Untouched start values presence o = (valuesAfter start values o ≡ values) × (presenceAfter start presence o ≡ presence)
+
+-- The demand, of every file and every question.
+pub record Demand1 (file : List ℕ) : Type 0 where
+  -- A question is refused exactly by the first refusal that applies.
+  pub refuses : (q : Question) (r : Refusal) → (verdict file q ≡ refused r) ↔ First file q r
+  -- It is answered exactly where none applies.
+  pub answers : (q : Question) → (verdict file q ≡ answered) ↔ ((r : Refusal) → Applies file q r → ⊥)
+  -- There is one first refusal at most.
+  pub one : (q : Question) (r s : Refusal) → First file q r → First file q s → r ≡ s
+  -- A refused call alters no number in the runs, whatever they hold.
+  pub untouched :
+      (k start : ℕ) (values : List Float) (presence : List ℕ) (r : Refusal) →
+      verdict file (decode k start (length values) (length presence)) ≡ refused r →
+      Untouched start values presence (outcome file k start (length values) (length presence))

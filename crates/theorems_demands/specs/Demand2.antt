@@ -1,0 +1,85 @@
+-- Demand 2: a file is accepted exactly when the grammar tiles it. Its field count, each description, each missing point and each packed integer X are those
+-- that the standard defines.
+use Prim.Native.Nat.{ℕ, _+_, _≤_, _<_}
+use mathlib.Core.Path.{_≡_}
+use mathlib.Core.Bool.{false}
+use mathlib.Core.List.{List}
+use mathlib.Core.Logic.{_↔_}
+use lib.IntN.{pos}
+use lib.ListN.{length, getD}
+use lib.Ieee.{Float, nan, fin}
+use Rattle.tiling_sections.specs.declared.Located.{Located}
+use Rattle.tiling.specs.declared.Checked.the-variants as Checked
+use Rattle.tiling.specs.Tiling.{check}
+use Rattle.theorems_grammar.specs.Grammar.{Accepted}
+use Rattle.section_3_geometry.specs.declared.Position.{Position}
+use Rattle.section_3_geometry.specs.Positions.{pointsOf, positionOf}
+use Rattle.doubles.specs.Doubles.{valueOf}
+use Rattle.question.specs.declared.Description.{Description}
+use Rattle.question.specs.declared.Described.the-variants as Described
+use Rattle.question.specs.declared.Placed.the-variants as Placed
+use Rattle.question.specs.Fields.{describe, place}
+use Rattle.question.specs.Judged.{Judged}
+use Rattle.question_decode.specs.declared.Decoded as declared
+use Rattle.question_decode.specs.declared.Decoded.the-variants as Decoded
+use Rattle.question_decode.specs.Decoding.{Outcome, integerOf, presentOf, rankOf, outcome, answerOf, valuesAfter, presenceAfter}
+use Rattle.theorems_demands.specs.Demand1.{FieldAt}
+
+-- A point that is present: as many points are present before it as integers are packed before its own, which is the standard's X, in its range; and the
+-- double that is written is that of R, E, D and X.
+pub record Present (file : List ℕ) (d : Description) (i : ℕ) (written : Float) : Type 0 where
+  pub x : ℕ
+  pub standard : integerOf file d (rankOf file d i) ≡ pos x
+  pub inRange : x ≤ 2147483647
+  pub double : written ≡ valueOf (d .representation .r) (d .representation .e) (d .representation .d) x
+
+-- Point i, by the two elements that are written for it. Its mark is the bitmap's bit, or 1 where all are present; a missing point has +0.
+pub record Point (file : List ℕ) (d : Description) (i : ℕ) (written : Float) (mark : ℕ) : Type 0 where
+  pub marked : mark ≡ presentOf file d i
+  pub oneOrZero : mark < 2
+  pub missing : mark ≡ 0 → written ≡ fin false 0 (pos 0)
+  pub present : mark ≡ 1 → Present file d i written
+
+-- A call of decode, with what both runs hold before it.
+pub record Call : Type 0 where
+  pub k : ℕ
+  pub start : ℕ
+  pub values : List Float
+  pub presence : List ℕ
+
+module _ (file : List ℕ) (c : Call) where
+  -- Its answer, and what stands at a place of each run afterwards, by the contract of decode.
+  abbrev outcomeOf : Outcome
+  outcomeOf = outcome file (c .k) (c .start) (length (c .values)) (length (c .presence))
+
+  abbrev pub answerTo : declared.Decoded
+  answerTo = answerOf outcomeOf
+
+  abbrev pub valueAt : ℕ → Float
+  valueAt i = getD (valuesAfter (c .start) (c .values) outcomeOf) i nan
+
+  abbrev pub markAt : ℕ → ℕ
+  markAt i = getD (presenceAfter (c .start) (c .presence) outcomeOf) i 0
+
+  -- It decodes the field that d describes: both runs hold its points from the start index on, and all else is as it was.
+  pub record Decodes (d : Description) : Type 0 where
+    pub describes : describe file (c .k) ≡ Described.As d
+    pub fits : (c .start + pointsOf (d .grid) ≤ length (c .values)) × (c .start + pointsOf (d .grid) ≤ length (c .presence))
+    pub points : (i : ℕ) → i < pointsOf (d .grid) → Point file d i (valueAt (c .start + i)) (markAt (c .start + i))
+    pub before : (i : ℕ) → i < c .start → (valueAt i ≡ getD (c .values) i nan) × (markAt i ≡ getD (c .presence) i 0)
+    pub behind : (i : ℕ) → c .start + pointsOf (d .grid) ≤ i → (valueAt i ≡ getD (c .values) i nan) × (markAt i ≡ getD (c .presence) i 0)
+
+-- The demand, of every file.
+pub record Demand2 (file : List ℕ) : Type 0 where
+  -- The counts of messages and fields are those of a tiling, and are given exactly where there is one.
+  pub accepts : (m n : ℕ) → (check file ≡ Checked.Counts m n) ↔ ((fs : List Located) × Accepted file m fs × (length fs ≡ n))
+  -- There is one tiling at most.
+  pub one : {m m′ : ℕ} {fs fs′ : List Located} → Accepted file m fs → Accepted file m′ fs′ → (m ≡ m′) × (fs ≡ fs′)
+  -- Field k is described as its sections in force say, exactly where each of them is taken.
+  pub describes : (k : ℕ) (d : Description) → (describe file k ≡ Described.As d) ↔ ((l : Located) × FieldAt file k l × Judged file l d)
+  -- Point n lies where its row and its column put it.
+  pub places :
+      (k n : ℕ) (p : Position) →
+      (place file k n ≡ Placed.At p) ↔ ((d : Description) × (describe file k ≡ Described.As d) × (n < pointsOf (d .grid)) × (positionOf (d .grid) n ≡ p))
+  -- A call of decode that answers with a count has decoded field k, whose points they are.
+  pub decodes : (c : Call) (n : ℕ) → answerTo file c ≡ Decoded.Points n → (d : Description) × Decodes file c d × (pointsOf (d .grid) ≡ n)

@@ -1,0 +1,50 @@
+-- Document 01, "What the reader takes": the questions that are asked of a file, and what comes of each, by the definitions that the contracts of the
+-- public functions cite.
+use Prim.Native.Nat.{ℕ}
+use mathlib.Core.List.{List}
+use Rattle.refusals.specs.declared.Refusal.{Refusal}
+use Rattle.tiling.specs.declared.Checked.{Checked}
+use Rattle.tiling.specs.declared.Checked.the-variants as Checked
+use Rattle.tiling.specs.Tiling as Tiling
+use Rattle.question.specs.declared.Described.{Described}
+use Rattle.question.specs.declared.Described.the-variants as Described
+use Rattle.question.specs.declared.Placed.{Placed}
+use Rattle.question.specs.declared.Placed.the-variants as Placed
+use Rattle.question.specs.Fields as Fields
+use Rattle.question_decode.specs.declared.Decoded.{Decoded}
+use Rattle.question_decode.specs.declared.Decoded.the-variants as Decoded
+use Rattle.question_decode.specs.Decoding.{outcome, answerOf}
+
+-- Check the file; describe field k; place point n of field k; decode field k from a start index on, into runs of these two lengths.
+pub data Question : Type 0 where
+  check : Question
+  describe : (k : ℕ) → Question
+  place : (k n : ℕ) → Question
+  decode : (k start values presence : ℕ) → Question
+
+-- What comes of a question: a full answer, or a refusal.
+pub data Verdict : Type 0 where
+  answered : Verdict
+  refused : Refusal → Verdict
+
+abbrev pub ofChecked : Checked → Verdict
+ofChecked (Checked.Counts messages fields) = answered
+ofChecked (Checked.Refused r) = refused r
+
+abbrev pub ofDescribed : Described → Verdict
+ofDescribed (Described.As d) = answered
+ofDescribed (Described.Refused r) = refused r
+
+abbrev pub ofPlaced : Placed → Verdict
+ofPlaced (Placed.At p) = answered
+ofPlaced (Placed.Refused r) = refused r
+
+abbrev pub ofDecoded : Decoded → Verdict
+ofDecoded (Decoded.Points n) = answered
+ofDecoded (Decoded.Refused r) = refused r
+
+abbrev pub verdict : List ℕ → Question → Verdict
+verdict file check = ofChecked (Tiling.check file)
+verdict file (describe k) = ofDescribed (Fields.describe file k)
+verdict file (place k n) = ofPlaced (Fields.place file k n)
+verdict file (decode k start values presence) = ofDecoded (answerOf (outcome file k start values presence))

@@ -1,0 +1,132 @@
+-- The contracts of the lowest crates leave nothing open: places and numbers, one section, bits, refusals, times, text and doubles.
+use mathlib.Core.Path.{refl}
+use denote.Ref.{now}
+use Rattle.theorems_outcomes.specs.Determined.{Determined, SeenDetermined}
+use Rattle.theorems_outcomes.proofs.Facts.{alike, one}
+use Rattle.octets.proofs as octets
+use Rattle.section.proofs as sections
+use Rattle.bits.proofs as bits
+use Rattle.bits_reader.proofs as reader
+use Rattle.refusals.proofs as refusals
+use Rattle.calendar.proofs as calendar
+use Rattle.text.proofs as text
+use Rattle.doubles.proofs as doubles
+
+-- A place is a record of one number.
+pub octets-place-of : Determined octets.place_of.ended (λ _. octets.place_of.clauses)
+octets-place-of _ 𝓤 _ _ _ _ _ _ _ _ _ _ _ _ = one 𝓤 (λ p q. (λ i. record { 0 = alike p q i }, refl))
+
+pub octets-first-bit : Determined octets.first_bit.ended (λ _. octets.first_bit.clauses)
+octets-first-bit _ 𝓤 _ _ _ _ _ _ _ _ _ _ _ _ = one 𝓤 (λ p q. (λ i. record { 0 = alike p q i }, refl))
+
+pub octets-octet-holding : Determined octets.octet_holding.ended (λ _. octets.octet_holding.clauses)
+octets-octet-holding _ 𝓤 _ _ _ _ _ _ _ _ _ _ _ _ = one 𝓤 (λ p q. (λ i. record { 0 = alike p q i }, refl))
+
+pub octets-number-at : Determined octets.number_at.ended (λ _. octets.number_at.clauses)
+octets-number-at _ 𝓤 _ _ _ _ _ _ _ _ _ _ _ _ = one 𝓤 (λ p q. (alike (p .0) (q .0), refl))
+
+pub octets-sign-and-size : Determined octets.sign_and_size.ended (λ _. octets.sign_and_size.clauses)
+octets-sign-and-size _ 𝓤 _ _ _ _ _ _ _ _ _ _ _ _ = one 𝓤 (λ p q. (alike p q, refl))
+
+-- Of the octets of a section, handed back as a part of the file, it is the octets that are seen.
+pub sections-octet : Determined sections.octet.ended (λ _. sections.octet.clauses)
+sections-octet _ 𝓤 _ _ _ _ _ _ _ _ _ _ _ _ = one 𝓤 (λ p q. (alike (p .0) (q .0), refl))
+
+pub sections-held : Determined sections.held.ended (λ _. sections.held.clauses)
+sections-held _ 𝓤 _ _ _ _ _ _ _ _ _ _ _ _ = one 𝓤 (λ p q. (alike (p .0) (q .0), refl))
+
+pub sections-held-signed : Determined sections.held_signed.ended (λ _. sections.held_signed.clauses)
+sections-held-signed _ 𝓤 _ _ _ _ _ _ _ _ _ _ _ _ = one 𝓤 (λ p q. (alike p q, refl))
+
+pub sections-length-of : Determined sections.length_of.ended (λ _. sections.length_of.clauses)
+sections-length-of _ 𝓤 _ _ _ _ _ _ _ _ _ _ _ _ = one 𝓤 (λ p q. (alike (p .0) (q .0), refl))
+
+pub sections-octets-in : SeenDetermined sections.octets_in.ended _ (λ _. now) (λ _. sections.octets_in.clauses)
+sections-octets-in _ 𝓤 _ _ _ _ _ _ _ _ _ _ _ _ = one 𝓤 (λ p q. (alike p q, refl))
+
+-- A pair is a record of two numbers.
+pub bits-eight : Determined bits.eight.ended (λ _. bits.eight.clauses)
+bits-eight _ 𝓤 _ _ _ _ _ _ _ _ _ _ _ _ = one 𝓤 (λ p q. (alike p q, refl))
+
+pub bits-bit-or-zero : Determined bits.bit_or_zero.ended (λ _. bits.bit_or_zero.clauses)
+bits-bit-or-zero _ 𝓤 _ _ _ _ _ _ _ _ _ _ _ _ = one 𝓤 (λ p q. (alike p q, refl))
+
+pub bits-bit-in : Determined bits.bit_in.ended (λ _. bits.bit_in.clauses)
+bits-bit-in _ 𝓤 _ _ _ _ _ _ _ _ _ _ _ _ = one 𝓤 (λ p q. (alike p q, refl))
+
+pub bits-read-bits : Determined bits.read_bits.ended (λ _. bits.read_bits.clauses)
+bits-read-bits _ 𝓤 _ _ _ _ _ _ _ _ _ _ _ _ = one 𝓤 (λ p q. (alike p q, refl))
+
+pub bits-read-pair : Determined bits.read_pair.ended (λ _. bits.read_pair.clauses)
+bits-read-pair _ 𝓤 _ _ _ _ _ _ _ _ _ _ _ _ = one 𝓤 (λ p q. (λ i. record { first = alike (p .0) (q .0) i; second = alike (p .1) (q .1) i }, refl))
+
+pub bits-pairs-in : Determined bits.pairs_in.ended (λ _. bits.pairs_in.clauses)
+bits-pairs-in _ 𝓤 _ _ _ _ _ _ _ _ _ _ _ _ = one 𝓤 (λ p q. (alike p q, refl))
+
+pub bits-after : Determined bits.after.ended (λ _. bits.after.clauses)
+bits-after _ 𝓤 _ _ _ _ _ _ _ _ _ _ _ _ = one 𝓤 (λ p q. (λ i. record { 0 = alike p q i }, refl))
+
+pub bits-octets-of : Determined bits.octets_of.ended (λ _. bits.octets_of.clauses)
+bits-octets-of _ 𝓤 _ _ _ _ _ _ _ _ _ _ _ _ = one 𝓤 (λ p q. (alike p q, refl))
+
+pub bits-octets-of-run : Determined bits.octets_of_run.ended (λ _. bits.octets_of_run.clauses)
+bits-octets-of-run _ 𝓤 _ _ _ _ _ _ _ _ _ _ _ _ = one 𝓤 (λ p q. (alike p q, refl))
+
+-- A reader is a record of its run and its place: it is the very run that it was made of.
+pub reader-new : Determined reader.new.ended (λ _. reader.new.clauses)
+reader-new _ 𝓤 _ _ _ _ _ _ _ _ _ _ _ _ = one 𝓤 (λ p q. (λ i. record { run = alike (p .0) (q .0) i; at = alike (p .1) (q .1) i }, refl))
+
+pub reader-next : Determined reader.next.ended (λ _. reader.next.clauses)
+reader-next _ 𝓤 _ _ _ _ _ _ _ _ _ _ _ _ = one 𝓤 (λ p q. (alike p q, refl))
+
+pub reader-next-pair : Determined reader.next_pair.ended (λ _. reader.next_pair.clauses)
+reader-next-pair _ 𝓤 _ _ _ _ _ _ _ _ _ _ _ _ = one 𝓤 (λ p q. (λ i. record { first = alike (p .0) (q .0) i; second = alike (p .1) (q .1) i }, refl))
+
+pub reader-moved : Determined reader.moved.ended (λ _. reader.moved.clauses)
+reader-moved _ 𝓤 _ _ _ _ _ _ _ _ _ _ _ _ = one 𝓤 (λ p q. (λ i. record { run = alike (p .0) (q .0) i; at = alike (p .1) (q .1) i }, refl))
+
+pub reader-take : Determined reader.take.ended (λ _. reader.take.clauses)
+reader-take _ 𝓤 _ _ _ _ _ _ _ _ _ _ _ _ = one 𝓤 (λ p q. (alike p q, refl))
+
+pub reader-take-pair : Determined reader.take_pair.ended (λ _. reader.take_pair.clauses)
+reader-take-pair _ 𝓤 _ _ _ _ _ _ _ _ _ _ _ _ = one 𝓤 (λ p q. (λ i. record { first = alike (p .0) (q .0) i; second = alike (p .1) (q .1) i }, refl))
+
+-- Numbers and codes of refusals.
+pub refusals-number-of : Determined refusals.number_of.ended (λ _. refusals.number_of.clauses)
+refusals-number-of _ 𝓤 _ _ _ _ _ _ _ _ _ _ _ _ = one 𝓤 (λ p q. (alike p q, refl))
+
+pub refusals-code-of : Determined refusals.code_of.ended (λ _. refusals.code_of.clauses)
+refusals-code-of _ 𝓤 _ _ _ _ _ _ _ _ _ _ _ _ = one 𝓤 (λ p q. (alike p q, refl))
+
+-- Times.
+pub calendar-time-at : Determined calendar.time_at.ended (λ _. calendar.time_at.clauses)
+calendar-time-at _ 𝓤 _ _ _ _ _ _ _ _ _ _ _ _ = one 𝓤 (λ p q. (alike p q, refl))
+
+pub calendar-plus : Determined calendar.plus.ended (λ _. calendar.plus.clauses)
+calendar-plus _ 𝓤 _ _ _ _ _ _ _ _ _ _ _ _ = one 𝓤 (λ p q. (alike p q, refl))
+
+pub calendar-compare : Determined calendar.compare.ended (λ _. calendar.compare.clauses)
+calendar-compare _ 𝓤 _ _ _ _ _ _ _ _ _ _ _ _ = one 𝓤 (λ p q. (alike p q, refl))
+
+pub calendar-digits : Determined calendar.digits.ended (λ _. calendar.digits.clauses)
+calendar-digits _ 𝓤 _ _ _ _ _ _ _ _ _ _ _ _ = one 𝓤 (λ p q. (alike p q, refl))
+
+-- Text that is put into a lent run: where it ends, and what the run holds afterwards.
+pub text-put : Determined text.put.ended (λ _. text.put.clauses)
+text-put _ 𝓤 _ _ _ _ _ _ _ _ _ _ _ _ = one 𝓤 (λ p q. (alike (p .1) (q .1), λ i. (alike (p .0) (q .0) i, (tt, (tt, tt)))))
+
+pub text-put-decimal : Determined text.put_decimal.ended (λ _. text.put_decimal.clauses)
+text-put-decimal _ 𝓤 _ _ _ _ _ _ _ _ _ _ _ _ = one 𝓤 (λ p q. (alike (p .1) (q .1), λ i. (alike (p .0) (q .0) i, (tt, (tt, tt)))))
+
+-- Doubles.
+pub doubles-is-finite : Determined doubles.is_finite.ended (λ _. doubles.is_finite.clauses)
+doubles-is-finite _ 𝓤 _ _ _ _ _ _ _ _ _ _ _ _ = one 𝓤 (λ p q. (alike p q, refl))
+
+pub doubles-packing-of : Determined doubles.packing_of.ended (λ _. doubles.packing_of.clauses)
+doubles-packing-of _ 𝓤 _ _ _ _ _ _ _ _ _ _ _ _ = one 𝓤 (λ p q. (alike p q, refl))
+
+pub doubles-rebuild : Determined doubles.rebuild.ended (λ _. doubles.rebuild.clauses)
+doubles-rebuild _ 𝓤 _ _ _ _ _ _ _ _ _ _ _ _ = one 𝓤 (λ p q. (alike p q, refl))
+
+pub doubles-rebuild-one : Determined doubles.rebuild_one.ended (λ _. doubles.rebuild_one.clauses)
+doubles-rebuild-one _ 𝓤 _ _ _ _ _ _ _ _ _ _ _ _ = one 𝓤 (λ p q. (alike p q, refl))

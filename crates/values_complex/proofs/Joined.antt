@@ -1,0 +1,147 @@
+-- Group by group the code works out the standard's integers: `group-worked`, and in `group-field` as they are written.
+use mathlib.Core.Path.{_≡_, refl, sym, ap, ap₂, _∙_}
+use mathlib.Core.Bool.{true, false}
+use mathlib.Core.List.{List}
+use Prim.Native.Nat.{ℕ, zero, suc, _+_, _-_, _*_, _≤_, _<_}
+use native.Mathlib.Nat.{add-mul, add-zero}
+use native.Mathlib.Omega.{arith}
+use borrow.Author.Tests.{ltb-true, ltb-false, leb-true, le-leb, lt-leb}
+use lib.Dec.{ltb, leb}
+use lib.IntN.{natAbs}
+use Rattle.octets.specs.Places.{firstBit}
+use Rattle.octets.proofs.Cases.{apart, split}
+use Rattle.bits.specs.Bits.{bitsAt}
+use Rattle.section_7_layout.specs.Runs.{widthOf, lengthOf}
+use Rattle.section_7.specs.Packing.{valuesBefore, bitsBefore}
+use Rattle.section_7.proofs.Laws.{values-more, values-mono}
+use Rattle.values_group.specs.declared.Worked as declared
+use Rattle.values_group.specs.declared.Worked.the-variants as Worked
+use Rattle.values_group.specs.Group.{mostX, next, packedNumber, workedBy, isKept, lastOf, integerBy}
+use Rattle.values_integers.specs.Integers.{Stands, referenceOf, storedAt, integer, areInRange}
+use Rattle.values_integers.specs.Worked.{raisedBy, loweredBy, worked}
+use Rattle.values_integers.proofs.Groups.{stands-stored}
+use Rattle.values_integers.proofs.Joined.{worked-sound, worked-range, worked-out}
+use Rattle.values_integers.proofs.Range.{in-range-all, in-range-one, in-range-out}
+use Rattle.values_complex.specs.declared.Groups.{Groups}
+use Rattle.values_complex.specs.Complex.{skipped, groupAt, valuesIn, integerIn, sizeIn, Sound}
+
+-- No more is skipped than the group has, nor than makes two values with those before it.
+pub record Skips (values length : ℕ) : Type 0 where
+  pub few : skipped values length ≤ length
+  pub toTwo : skipped values length < length → values + skipped values length ≡ values - 2 + 2
+  pub rest : values - 2 + (length - skipped values length) ≡ values + length - 2
+
+pub skips : (values length : ℕ) → Skips values length
+skips values length =
+    split (ltb length (2 - values))
+    (λ short.
+    let all : skipped values length ≡ length = rw short in
+    let under = ltb-true length (2 - values) short in
+    record { few = omega arith; toTwo = λ h. absurd (omega arith); rest = omega arith })
+    (λ long.
+    let two : skipped values length ≡ 2 - values = rw long in
+    let over = ltb-false length (2 - values) long in
+    record { few = omega arith; toTwo = λ h. omega arith; rest = omega arith })
+
+module _ (run : List ℕ) (g : Groups) where
+  abbrev stored : ℕ → ℕ
+  stored m = storedAt run (g .layout) (g .bits) (g .grouping) m
+
+  abbrev before : ℕ → ℕ
+  before i = valuesBefore run (g .layout) (g .grouping) i
+
+  abbrev lengthAt : ℕ → ℕ
+  lengthAt i = lengthOf run (g .layout) (g .grouping) i
+
+  -- What is worked out behind the second value and so many more.
+  abbrev pub workedIn : ℕ → declared.Worked
+  workedIn m = worked (g .differencing) stored m
+
+  -- The packed number k that is used of group i, with the group's reference, is what is stored for the value.
+  number-stored : (i k : ℕ) → i < g .grouping .groups → k < groupAt run g i .count → packedNumber run (groupAt run g i) k + referenceOf run (g .layout) (g .bits) i ≡ stored (before i - 2 + k + 2)
+  number-stored i k h l =
+      let s = skips (before i) (lengthAt i) in
+      let skip : ℕ = skipped (before i) (lengthAt i) in
+      let value : before i - 2 + k + 2 ≡ before i + (skip + k) = omega (arith, s .toTwo (omega arith)) in
+      let stands : Stands run (g .layout) (g .grouping) (before i - 2 + k + 2) i (skip + k) = record { within = h; inside = omega arith; behind = value } in
+      ap (λ (place : ℕ). bitsAt run place (widthOf run (g .layout) (g .grouping) i) + referenceOf run (g .layout) (g .bits) i) (placed (firstBit (g .layout .packed .0)) (bitsBefore run (g .layout) (g .grouping) i) skip k (widthOf run (g .layout) (g .grouping) i))
+      ∙ sym (stands-stored run (g .layout) (g .grouping) stands (g .bits))
+    where
+      placed : (first bits skip k width : ℕ) → first + bits + skip * width + k * width ≡ first + (bits + (skip + k) * width)
+      placed first bits skip k width = rw (add-mul skip k width) (omega arith)
+
+  -- Behind k integers of group i stands what is worked out behind all values up to them.
+  pub group-worked : (i k : ℕ) → i < g .grouping .groups → k ≤ groupAt run g i .count → workedBy run (groupAt run g i) (workedIn (before i - 2)) k ≡ workedIn (before i - 2 + k)
+  unfolding workedBy worked
+  group-worked i zero h l = ap workedIn (sym (add-zero (before i - 2)))
+  group-worked i (suc k) h l =
+      let m : ℕ = before i - 2 + k in
+      let two : m + 2 ≡ suc (suc m) = omega arith in
+      let later : suc m ≡ before i - 2 + suc k = omega arith in
+      let number : packedNumber run (groupAt run g i) k + groupAt run g i .base ≡ stored (suc (suc m)) + raisedBy (g .differencing .zmin) =
+      omega (arith, number-stored i k h (omega arith), ap stored two) in
+      ap₂ (λ (raised : ℕ) (w : declared.Worked). next raised (loweredBy (g .differencing .zmin)) w) number (group-worked i k h (omega arith)) ∙ ap workedIn later
+
+  -- Behind all of them stands what is worked out behind the next group's start.
+  pub group-ends : (i : ℕ) → before i - 2 + groupAt run g i .count ≡ before (i + 1) - 2
+  group-ends i = omega (arith, skips (before i) (lengthAt i) .rest, values-more run (g .layout) (g .grouping) i)
+
+  pub group-passed : (i : ℕ) → i < g .grouping .groups → workedBy run (groupAt run g i) (workedIn (before i - 2)) (groupAt run g i .count) ≡ workedIn (before (i + 1) - 2)
+  group-passed i h = group-worked i (groupAt run g i .count) h (omega arith) ∙ ap workedIn (group-ends i)
+
+  -- The first two values are judged before all groups.
+  pub first-kept : g .differencing .first ≤ mostX → g .differencing .second ≤ mostX → workedIn 0 ≡ Worked.Kept (g .differencing .second) (g .differencing .first)
+  unfolding worked
+  first-kept h k = rw (le-leb (g .differencing .first) mostX h, le-leb (g .differencing .second) mostX k)
+
+  pub first-out : mostX < g .differencing .first → workedIn 0 ≡ Worked.Out
+  unfolding worked
+  first-out h = rw (lt-leb (g .differencing .first) mostX h)
+
+  pub second-out : mostX < g .differencing .second → workedIn 0 ≡ Worked.Out
+  unfolding worked
+  second-out h = split (leb (g .differencing .first) mostX) (λ one. rw (one, lt-leb (g .differencing .second) mostX h)) (λ one. rw one)
+
+  module _ (sound : Sound run g) where
+    -- Where integers are out of their range as the code works them out, so are the field's, and where all were kept, none is.
+    pub out-of-range : (m : ℕ) → m ≤ valuesIn run g - 2 → workedIn m ≡ Worked.Out → areInRange (integerIn run g) (valuesIn run g) ≡ false
+    out-of-range m h e =
+        let beyond = worked-out (g .differencing) stored m e in
+        in-range-out (integerIn run g) (valuesIn run g) {j = beyond .which} (omega (arith, beyond .asked, sound .twoValues)) (beyond .outside)
+
+    pub in-range : {x y : ℕ} → workedIn (valuesIn run g - 2) ≡ Worked.Kept x y → areInRange (integerIn run g) (valuesIn run g) ≡ true
+    in-range e = in-range-all (integerIn run g) (valuesIn run g) (λ j h. worked-range (g .differencing) stored (valuesIn run g - 2) e j (omega (arith, sound .twoValues)))
+
+    pub next-start : (i : ℕ) → i < g .grouping .groups → before (i + 1) - 2 ≤ valuesIn run g - 2
+    next-start i h = omega (arith, values-mono run (g .layout) (g .grouping) {i = i + 1} (g .grouping .groups) (omega arith))
+
+    -- Where all are in their range, each is kept.
+    pub range-kept : areInRange (integerIn run g) (valuesIn run g) ≡ true → (m : ℕ) → m ≤ valuesIn run g - 2 → isKept (workedIn m) ≡ true
+    range-kept all m h = by (workedIn m) refl
+      where
+        by : (w : declared.Worked) → workedIn m ≡ w → isKept w ≡ true
+        by (Worked.Kept x y) e = refl
+        by Worked.Out e = apart (cc (sym (out-of-range m h e) ∙ all))
+
+    module _ (all : areInRange (integerIn run g) (valuesIn run g) ≡ true) where
+      -- The first two integers are the first value and the second.
+      pub two-kept : workedIn 0 ≡ Worked.Kept (g .differencing .second) (g .differencing .first)
+      unfolding integer
+      two-kept =
+          let one = in-range-one (integerIn run g) (valuesIn run g) {j = 0} all (omega (arith, sound .twoValues)) in
+          let two = in-range-one (integerIn run g) (valuesIn run g) {j = 1} all (omega (arith, sound .twoValues)) in
+          first-kept (leb-true (g .differencing .first) mostX one) (leb-true (g .differencing .second) mostX two)
+
+      -- The integers of group i, as they are written, are the field's.
+      pub group-field : (i x y : ℕ) → i < g .grouping .groups → workedIn (before i - 2) ≡ Worked.Kept x y → (k : ℕ) → k < groupAt run g i .count → integerBy run (groupAt run g i) x y k ≡ sizeIn run g (before i - 2 + 2 + k)
+      group-field i x y h kept k l =
+          let m : ℕ = before i - 2 + suc k in
+          let last : workedBy run (groupAt run g i) (Worked.Kept x y) (suc k) ≡ workedIn m =
+          ap (λ (w : declared.Worked). workedBy run (groupAt run g i) w (suc k)) (sym kept) ∙ group-worked i (suc k) h (omega arith) in
+          let asked : m ≤ valuesIn run g - 2 = omega (arith, group-ends i, next-start i h) in
+          let number : suc m ≡ before i - 2 + 2 + k = omega arith in
+          ap lastOf last ∙ sized m (workedIn m) refl (range-kept all m asked) ∙ ap (sizeIn run g) number
+        where
+          sized : (m : ℕ) (w : declared.Worked) → workedIn m ≡ w → isKept w ≡ true → lastOf w ≡ sizeIn run g (suc m)
+          sized m (Worked.Kept a b) e h = sym (ap natAbs (worked-sound (g .differencing) stored m e .last))
+          sized m Worked.Out e h = apart cc

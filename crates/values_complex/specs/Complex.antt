@@ -1,0 +1,66 @@
+-- Document 01, "Section 7", complex packing: the groups of a field, one after the other, and the integers X of the field.
+use Prim.Native.Nat.{ℕ, _+_, _-_, _*_, _≤_, _<_, _^_}
+use mathlib.Core.Path.{_≡_}
+use mathlib.Core.Bool.{true, cond}
+use mathlib.Core.List.{List}
+use lib.Dec.{ltb}
+use lib.IntN.{ℤ, natAbs}
+use Rattle.octets.specs.Places.{firstBit}
+use Rattle.section_5_groups.specs.declared.Grouping.{Grouping}
+use Rattle.section_7_layout.specs.Runs.{differencingAt, layoutOf, widthOf, lengthOf, Limited}
+use Rattle.section_7.specs.Packing.{valuesBefore, bitsBefore, areSound}
+use Rattle.values_group.specs.declared.Group.{Group}
+use Rattle.values_integers.specs.Integers.{referenceOf, storedAt, integer}
+use Rattle.values_integers.specs.Worked.{raisedBy, loweredBy}
+use Rattle.values_complex.specs.declared.Groups.{Groups}
+use Rattle.values_complex.specs.declared.Start.{Start}
+
+-- The groups of the section 7 at s.
+abbrev pub groupsIn : List ℕ → ℕ → ℕ → Grouping → Groups
+groupsIn file s bits grouping = record { layout = layoutOf bits grouping; grouping = grouping; bits = bits; differencing = differencingAt file s (grouping .extra) }
+
+-- Where the groups are known by their section's octets: all values in them, and the integer X of value m.
+module _ (run : List ℕ) (g : Groups) where
+  abbrev pub valuesIn : ℕ
+  valuesIn = valuesBefore run (g .layout) (g .grouping) (g .grouping .groups)
+
+  abbrev pub integerIn : ℕ → ℤ
+  integerIn m = integer (g .differencing) (storedAt run (g .layout) (g .bits) (g .grouping)) m
+
+  -- An integer in its range is its own size.
+  abbrev pub sizeIn : ℕ → ℕ
+  sizeIn m = natAbs (integerIn m)
+
+-- The packed numbers of the first two values are there and not used. Where so many values stand before a group of such a length, that many of
+-- its own are among the first two.
+abbrev pub skipped : ℕ → ℕ → ℕ
+skipped values length = cond (ltb length (2 - values)) length (2 - values)
+
+module _ (run : List ℕ) (g : Groups) (i : ℕ) where
+  -- Where group i starts: behind the values and the bits of those before it.
+  abbrev pub startOf : Start
+  startOf = record { values = valuesBefore run (g .layout) (g .grouping) i; bit = record { 0 = firstBit (g .layout .packed .0) + bitsBefore run (g .layout) (g .grouping) i } }
+
+  -- Of its numbers those are not used that are skipped.
+  abbrev skippedHere : ℕ
+  skippedHere = skipped (valuesBefore run (g .layout) (g .grouping) i) (lengthOf run (g .layout) (g .grouping) i)
+
+  abbrev pub groupAt : Group
+  groupAt =
+      record {
+        from = record { 0 = firstBit (g .layout .packed .0) + bitsBefore run (g .layout) (g .grouping) i + skippedHere * widthOf run (g .layout) (g .grouping) i };
+        width = widthOf run (g .layout) (g .grouping) i;
+        base = referenceOf run (g .layout) (g .bits) i + raisedBy (g .differencing .zmin);
+        lowered = loweredBy (g .differencing .zmin);
+        count = lengthOf run (g .layout) (g .grouping) i - skippedHere;
+      }
+
+-- What section 5 and the plan of section 7 have judged before.
+pub record Sound (run : List ℕ) (g : Groups) : Type 0 where
+  pub placed : g .layout ≡ layoutOf (g .bits) (g .grouping)
+  pub limited : Limited (g .bits) (g .grouping)
+  pub groupsFit : g .grouping .groups < 2 ^ 32
+  pub sound : areSound run (g .layout) (g .grouping) (g .grouping .groups) ≡ true
+  pub twoValues : 2 ≤ valuesIn run g
+  pub fewValues : valuesIn run g ≤ 16777216
+  pub zminFits : g .differencing .zmin .size < 2 ^ 31

@@ -1,0 +1,258 @@
+// Complex packing with second differences (5.3): the groups of a field one after the other, judged in a first pass that writes nothing, and
+// written in a second one.
+ghost use mathlib.Core.Path.{_≡_};
+ghost use mathlib.Core.Bool.{true};
+ghost use Prim.Native.Nat.{_+_, _*_, _≤_, _<_};
+ghost use lib.ListN.{length};
+ghost use Rattle.laws_rows.specs.Rows.{row};
+ghost use Rattle.bits.specs.Bits.{bitAt};
+ghost use Rattle.values_points.specs.Points.{doubleAt};
+ghost use Rattle.section_6.specs.Presence.{onesBefore};
+ghost use Rattle.section_7_layout.specs.Runs.{Limited};
+ghost use Rattle.values_integers.specs.Worked.{raisedBy, loweredBy};
+ghost use Rattle.values_integers.specs.Integers.{areInRange};
+ghost use Rattle.values_complex.specs.Complex.{groupsIn, skipped, startOf, groupAt, valuesIn, integerIn, sizeIn, Sound};
+use doubles::Packing;
+use octets::BitPlace;
+use octets::FilePlace;
+use octets::Signed;
+use section_5_groups::Grouping;
+use section_7_layout::Differencing;
+use section_7_layout::Layout;
+use values_group::Group;
+use values_group::Reached;
+use values_group::Worked;
+
+// What is known of all groups: where their runs lie, how their widths and lengths are told, the bits of a reference, and what stands before
+// them.
+pub struct Groups {
+    pub layout: Layout,
+    pub grouping: Grouping,
+    pub bits: u32,
+    pub differencing: Differencing,
+}
+
+// Where a group starts: how many values stand before it, and the place of its first bit.
+pub struct Start {
+    pub values: u64,
+    pub bit: BitPlace,
+}
+
+// A group, and where the next one starts.
+pub struct Met {
+    pub group: Group,
+    pub next: Start,
+}
+
+// The groups of the section 7 at `at`.
+pub fn groups_in(file: &[u8], at: FilePlace, bits: u32, grouping: Grouping) -> Groups
+    requires { ⌜ Limited bits grouping ⌝ }
+    requires { ⌜ (1 ≤ grouping .extra) × (at .0 + 5 + 3 * grouping .extra ≤ length (now file)) ⌝ }
+    ensures { λ r. ⌜ r ≡ groupsIn (now (file .entry)) (at .0) bits grouping ⌝ }
+{
+    let layout = section_7_layout::layout_of(bits, grouping);
+    let differencing = section_7_layout::differencing_at(file, at, grouping.extra);
+    Groups {
+        layout,
+        grouping,
+        bits,
+        differencing,
+    }
+}
+
+// What Zmin adds.
+fn raised_by(zmin: Signed) -> u64
+    ensures { λ r. ⌜ r ≡ raisedBy zmin ⌝ }
+{
+    if zmin.negative { 0 } else { zmin.size }
+}
+
+// What Zmin takes away.
+fn lowered_by(zmin: Signed) -> u64
+    ensures { λ r. ⌜ r ≡ loweredBy zmin ⌝ }
+{
+    if zmin.negative { zmin.size } else { 0 }
+}
+
+// How many values of a group are among the field's first two, whose packed numbers are not used.
+fn skipped(values: u64, length: u64) -> u64
+    ensures { λ r. ⌜ r ≡ skipped values length ⌝ }
+{
+    if 2 <= values {
+        return 0;
+    }
+    if length < 2 - values {
+        return length;
+    }
+    2 - values
+}
+
+// Group i, which starts at `start`.
+fn group_at(section: &[u8], groups: Groups, i: u32, start: Start) -> Met
+    requires { ⌜ (Sound (now section) groups) × (i < groups .grouping .groups) ⌝ }
+    requires { ⌜ start ≡ startOf (now section) groups i ⌝ }
+    ensures { λ r. ⌜ (r .group ≡ groupAt (now (section .entry)) groups i) × (r .next ≡ startOf (now (section .entry)) groups (i + 1)) ⌝ }
+{
+    let layout = groups.layout;
+    let grouping = groups.grouping;
+    let differencing = groups.differencing;
+    let references = layout.references;
+    let zmin = differencing.zmin;
+    let first = start.bit.0;
+    let width = section_7_layout::width_of(section, layout, grouping, i);
+    let length = section_7_layout::length_of(section, layout, grouping, i);
+    let reference = section_7_layout::stored(section, references, groups.bits, i);
+    let skip = skipped(start.values, length);
+    Met {
+        group: Group {
+            from: BitPlace(first + skip as usize * width as usize),
+            width,
+            base: reference as u64 + raised_by(zmin),
+            lowered: lowered_by(zmin),
+            count: length - skip,
+        },
+        next: Start {
+            values: start.values + length,
+            bit: BitPlace(first + width as usize * length as usize),
+        },
+    }
+}
+
+// Is every integer X of the field from 0 to 2,147,483,647? It writes nothing.
+pub fn is_in_range(section: &[u8], groups: Groups) -> bool
+    requires { ⌜ Sound (now section) groups ⌝ }
+    ensures { λ r. ⌜ r ≡ areInRange (integerIn (now (section .entry)) groups) (valuesIn (now (section .entry)) groups) ⌝ }
+{
+    let layout = groups.layout;
+    let grouping = groups.grouping;
+    let differencing = groups.differencing;
+    let mut x = differencing.second as u64;
+    let mut before = differencing.first as u64;
+    if 2147483647 < x {
+        return false;
+    }
+    if 2147483647 < before {
+        return false;
+    }
+    let first = octets::first_bit(layout.packed);
+    let mut start = Start {
+        values: 0,
+        bit: first,
+    };
+    let mut i: u32 = 0;
+    while i < grouping.groups {
+        let met = group_at(section, groups, i, start);
+        let group = met.group;
+        let Worked::Kept {
+            x: last,
+            before: previous,
+        } = values_group::judge(section, group, x, before)
+        else {
+            return false;
+        };
+        x = last;
+        before = previous;
+        start = met.next;
+        i += 1;
+    }
+    true
+}
+
+// Fills the runs for a field whose points are all present.
+pub fn fill_all(
+    section: &[u8],
+    groups: Groups,
+    packing: Packing,
+    values: &mut [f64],
+    presence: &mut [u8],
+)
+    requires { ⌜ Sound (now section) groups ⌝ }
+    requires { ⌜ areInRange (integerIn (now section) groups) (valuesIn (now section) groups) ≡ true ⌝ }
+    requires { ⌜ (length (now presence) ≡ length (now values)) × (length (now values) ≤ 16777216) ⌝ }
+    requires { ⌜ valuesIn (now section) groups ≡ length (now values) ⌝ }
+    ensures { λ _. ⌜ now (values .exit) ≡ row (doubleAt packing (sizeIn (now (section .entry)) groups) (λ _. 1) (λ i. i)) (length (now (values .entry))) ⌝ }
+    ensures { λ _. ⌜ now (presence .exit) ≡ row (λ _. 1) (length (now (values .entry))) ⌝ }
+{
+    let layout = groups.layout;
+    let grouping = groups.grouping;
+    let differencing = groups.differencing;
+    values[0] = doubles::rebuild(packing, differencing.first);
+    presence[0] = 1;
+    values[1] = doubles::rebuild(packing, differencing.second);
+    presence[1] = 1;
+    let mut reached = Reached {
+        x: differencing.second as u64,
+        before: differencing.first as u64,
+        point: 2,
+    };
+    let first = octets::first_bit(layout.packed);
+    let mut start = Start {
+        values: 0,
+        bit: first,
+    };
+    let mut i: u32 = 0;
+    while i < grouping.groups {
+        let met = group_at(section, groups, i, start);
+        let group = met.group;
+        reached = values_group::fill_all(section, group, packing, values, presence, reached);
+        start = met.next;
+        i += 1;
+    }
+}
+
+// Fills the runs for a field with a bitmap.
+pub fn fill_marked(
+    section: &[u8],
+    bitmap: &[u8],
+    groups: Groups,
+    packing: Packing,
+    values: &mut [f64],
+    presence: &mut [u8],
+)
+    requires { ⌜ Sound (now section) groups ⌝ }
+    requires { ⌜ areInRange (integerIn (now section) groups) (valuesIn (now section) groups) ≡ true ⌝ }
+    requires { ⌜ (length (now presence) ≡ length (now values)) × (length (now values) ≤ 16777216) × (length (now values) ≤ 8 * length (now bitmap)) ⌝ }
+    requires { ⌜ valuesIn (now section) groups ≡ onesBefore (now bitmap) (length (now values)) ⌝ }
+    ensures { λ _. ⌜ now (values .exit) ≡ row (doubleAt packing (sizeIn (now (section .entry)) groups) (bitAt (now (bitmap .entry))) (onesBefore (now (bitmap .entry)))) (length (now (values .entry))) ⌝ }
+    ensures { λ _. ⌜ now (presence .exit) ≡ row (bitAt (now (bitmap .entry))) (length (now (values .entry))) ⌝ }
+{
+    let layout = groups.layout;
+    let grouping = groups.grouping;
+    let differencing = groups.differencing;
+    let one = values_points::write_next(bitmap, packing, differencing.first, values, presence, 0);
+    let two = values_points::write_next(
+        bitmap,
+        packing,
+        differencing.second,
+        values,
+        presence,
+        one,
+    );
+    let mut reached = Reached {
+        x: differencing.second as u64,
+        before: differencing.first as u64,
+        point: two,
+    };
+    let first = octets::first_bit(layout.packed);
+    let mut start = Start {
+        values: 0,
+        bit: first,
+    };
+    let mut i: u32 = 0;
+    while i < grouping.groups {
+        let met = group_at(section, groups, i, start);
+        let group = met.group;
+        reached = values_group::fill_marked(
+            section,
+            bitmap,
+            group,
+            packing,
+            values,
+            presence,
+            reached,
+        );
+        start = met.next;
+        i += 1;
+    }
+    values_points::clear_missing(bitmap, values, presence, reached.point);
+}

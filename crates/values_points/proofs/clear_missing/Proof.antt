@@ -1,0 +1,96 @@
+-- `values_points::clear_missing` meets its contract. The invariant: the points from `point` up to `i` are missing, and so written.
+use mathlib.Core.Path.{_≡_, refl, sym, _∙_}
+use Prim.Native.Nat.{_-_}
+use native.Mathlib.Omega.{arith}
+use borrow.Author.Needs.{needs}
+use lib.ListN.{length, length-set}
+use Rattle.bits.proofs.Laws.{bit-lt}
+use Rattle.values_points.proofs.Missing.{Missing, zero-literal, missing-none, missing-more, missing-cleared}
+use Rattle.values_points.proofs.clear_missing.Statement.{statement}
+use Rattle.values_points.proofs.clear_missing.Tie as tie
+
+abbrev Inv-loop : tie.InvT-loop
+Inv-loop bitmap values₀ presence₀ point i₀ values presence i =
+    (length values ≡ length values₀) × (length presence ≡ length presence₀) × Missing bitmap point i values₀ values presence₀ presence
+
+abbrev μ-loop : tie.MeasureT-loop
+μ-loop bitmap values₀ presence₀ point i₀ values presence i = length values₀ - i
+
+loop-holds : tie.Need-loop-holds Inv-loop μ-loop
+loop-holds c =
+    let a = c .before .before .before .args in
+    (refl, refl, missing-none (a .bitmap .now) (a .point) (a .values .now) (a .presence .now) (c .before .before .before .pre .1))
+
+bit-in-requires : tie.Need-bit-in-requires Inv-loop μ-loop
+bit-in-requires c κs = search needs
+
+same-length : tie.Need-same-length Inv-loop μ-loop
+same-length c = search needs
+
+same-length-2 : tie.Need-same-length-2 Inv-loop μ-loop
+same-length-2 c = search needs
+
+returns : tie.Need-returns Inv-loop μ-loop
+returns c =
+    let l = c .before .before .before in
+    let a = l .before .before .before .before .args in
+    missing-cleared (a .bitmap .now) (a .point) (a .values .now) (a .presence .now) (l .loop .inv .2)
+    (λ _. omega (arith, c .before .bit-in .ensures, c .if1 .taken, bit-lt (a .bitmap .now) (l .loop .i)))
+
+mul-values : tie.Need-mul-values Inv-loop μ-loop
+mul-values c = search needs
+
+slice-write-values : tie.Need-slice-write-values Inv-loop μ-loop
+slice-write-values c = search needs
+
+slice-write-presence : tie.Need-slice-write-presence Inv-loop μ-loop
+slice-write-presence c = search needs
+
+add-i : tie.Need-add-i Inv-loop μ-loop
+add-i c = search needs
+
+loop-less : tie.Need-loop-less Inv-loop μ-loop
+loop-less c = search needs
+
+loop-again : tie.Need-loop-again Inv-loop μ-loop
+loop-again c =
+    let l = c .before .before .before in
+    let a = l .before .before .before .before .args in
+    rw zero-literal (
+      length-set (l .loop .values) (l .loop .i) _ ∙ l .loop .inv .0,
+      length-set (l .loop .presence) (l .loop .i) _ ∙ l .loop .inv .1,
+      missing-more (a .bitmap .now) (a .point) (a .values .now) (a .presence .now) (l .loop .inv .2) (omega arith) (sym (c .before .bit-in .ensures) ∙ c .if1 .left),
+    )
+
+same-length-3 : tie.Need-same-length-3 Inv-loop μ-loop
+same-length-3 c = search needs
+
+same-length-4 : tie.Need-same-length-4 Inv-loop μ-loop
+same-length-4 c = search needs
+
+returns-2 : tie.Need-returns-2 Inv-loop μ-loop
+returns-2 c =
+    let l = c .before in
+    let a = l .before .before .before .before .args in
+    missing-cleared (a .bitmap .now) (a .point) (a .values .now) (a .presence .now) (l .loop .inv .2) (λ before. absurd (omega arith))
+
+pub clear-missing-spec : {M : Type 1} → statement M
+clear-missing-spec =
+    tie.close
+    (tie.spec
+    Inv-loop
+    μ-loop
+    loop-holds
+    bit-in-requires
+    same-length
+    same-length-2
+    returns
+    mul-values
+    slice-write-values
+    slice-write-presence
+    add-i
+    loop-less
+    loop-again
+    same-length-3
+    same-length-4
+    returns-2)

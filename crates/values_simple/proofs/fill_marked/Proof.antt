@@ -1,0 +1,137 @@
+-- `values_simple::fill_marked` meets its contract. The invariant: the first `i` points are written into both runs, and `at` is the place of the number
+-- behind those of the points present among them.
+use mathlib.Core.Path.{_≡_, refl}
+use Prim.Native.Nat.{_+_, _-_, _*_, _≤_}
+use native.Mathlib.Omega.{arith}
+use borrow.Author.Needs.{needs}
+use lib.ListN.{length}
+use Rattle.octets.specs.Places.{firstBit}
+use Rattle.bits.specs.Bits.{bitAt}
+use Rattle.section_6.specs.Presence.{onesBefore}
+use Rattle.section_6.proofs.Laws.{ones-more}
+use Rattle.values_points.proofs.Laws.{WrittenPast, written-past, written-none}
+use Rattle.values_integers.specs.Integers.{simpleInteger}
+use Rattle.values_simple.specs.Simple.{numbersFrom}
+use Rattle.values_simple.proofs.Laws.{numbers-later, place-behind, bits-in-all}
+use Rattle.values_simple.proofs.Stretches.{written-rows, marked-turn, turn-further}
+use Rattle.values_simple.proofs.fill_marked.Statement.{statement}
+use Rattle.values_simple.proofs.fill_marked.Tie as tie
+
+abbrev Inv-loop : tie.InvT-loop
+Inv-loop section bitmap bits packing values₀ presence₀ at₀ i₀ values presence at i =
+    (i ≤ length values₀)
+    × (length values ≡ length values₀)
+    × (length presence ≡ length presence₀)
+    × (at ≡ firstBit 6 + onesBefore bitmap i * bits)
+    × (at ≤ 40 + i * 31)
+    × WrittenPast (bitAt bitmap) (onesBefore bitmap) packing (simpleInteger section bits) (onesBefore bitmap i) 0 i values₀ values presence₀ presence
+
+abbrev μ-loop : tie.MeasureT-loop
+μ-loop section bitmap bits packing values₀ presence₀ at₀ i₀ values presence at i = length values₀ - i
+
+first-bit-requires : tie.Need-first-bit-requires Inv-loop μ-loop
+first-bit-requires c κs = search needs
+
+loop-holds : tie.Need-loop-holds Inv-loop μ-loop
+unfolding onesBefore
+loop-holds c =
+    let a = c .before .before .before .before .before .args in (
+      omega arith,
+      refl,
+      refl,
+      omega arith,
+      omega arith,
+      written-past
+          (written-none (bitAt (a .bitmap .now)) (onesBefore (a .bitmap .now)) (ones-more (a .bitmap .now)) (a .packing) (simpleInteger (a .section .now) (a .bits)) 0 (a .values .now) (a .presence .now) (omega arith)),
+    )
+
+present-until-requires : tie.Need-present-until-requires Inv-loop μ-loop
+present-until-requires c κs = search needs
+
+fill-present-requires : tie.Need-fill-present-requires Inv-loop μ-loop
+fill-present-requires c κs = search needs
+
+sub-at : tie.Need-sub-at Inv-loop μ-loop
+sub-at c = omega (arith, c .before .before .before .before .before .before .before .present-until .ensures .onward)
+
+-- The bits of the numbers of a stretch.
+stretch-bits : (c : tie.After-present-until Inv-loop μ-loop) →
+    let a = c .before .before .before .before .before .before .before .before .args in
+    let points = c .present-until .result - c .before .before .loop .i in
+    points * a .bits ≤ points * 31
+stretch-bits c =
+    let a = c .before .before .before .before .before .before .before .before .args in
+    bits-in-all (c .present-until .result - c .before .before .loop .i) (a .bits) 31 (omega arith)
+
+mul-at : tie.Need-mul-at Inv-loop μ-loop
+mul-at c =
+    let u = c .before .before .before .before .before .before .before in
+    omega (arith, u .present-until .ensures .within, stretch-bits u)
+
+add-at : tie.Need-add-at Inv-loop μ-loop
+add-at c =
+    let u = c .before .before .before .before .before .before .before in
+    omega (arith, u .present-until .ensures .within, u .present-until .ensures .onward, stretch-bits u)
+
+clear-missing-requires : tie.Need-clear-missing-requires Inv-loop μ-loop
+clear-missing-requires c κs = search needs
+
+loop-less : tie.Need-loop-less Inv-loop μ-loop
+loop-less c =
+    let u = c .before .before .before .before .before .before .before .before .before .before .before .before .before .before in
+    let cleared = c .before .before .before .before .clear-missing .ensures in
+    omega (arith, cleared .within, turn-further (u .present-until .ensures) cleared (omega arith) (omega arith))
+
+loop-again : tie.Need-loop-again Inv-loop μ-loop
+loop-again c =
+    let u = c .before .before .before .before .before .before .before .before .before .before .before .before .before .before in
+    let l = u .before .before .loop in
+    let a = u .before .before .before .before .before .before .before .before .args in
+    let next = c .before .before .before .before .clear-missing .result in
+    let until = u .present-until .result in
+    let stretch = u .present-until .ensures in
+    let cleared = c .before .before .before .before .clear-missing .ensures in
+    let ones = onesBefore (a .bitmap .now) in
+    let written = c .before .before .before .before .before .before .before .before .before .before .before .fill-present .ensures in
+    let same = numbers-later (a .section .now) (a .bits) (firstBit 6) (l .at) (ones (l .i)) (l .inv .3) in
+    let turn = marked-turn (a .bitmap .now) (a .packing) (simpleInteger (a .section .now) (a .bits)) (numbersFrom (a .section .now) (a .bits) (l .at)) (l .inv .5) written (stretch .present) same cleared in (
+      omega (arith, cleared .within),
+      omega arith,
+      omega arith,
+      place-behind (firstBit 6) (ones (l .i)) (until - l .i) (ones next) (a .bits) (l .at) (l .inv .3) (turn .0),
+      omega (arith, stretch .onward, cleared .onward, stretch-bits u),
+      turn .1,
+    )
+
+same-length : tie.Need-same-length Inv-loop μ-loop
+same-length c = search needs
+
+same-length-2 : tie.Need-same-length-2 Inv-loop μ-loop
+same-length-2 c = search needs
+
+returns : tie.Need-returns Inv-loop μ-loop
+unfolding onesBefore
+returns c =
+    let a = c .before .before .before .before .before .before .before .args in
+    let bitmap = a .bitmap .now in
+    written-rows (bitAt bitmap) (onesBefore bitmap) (ones-more bitmap) (a .packing) (simpleInteger (a .section .now) (a .bits)) refl (c .before .loop .inv .5) (omega arith) (omega arith)
+
+pub fill-marked-spec : {M : Type 1} → statement M
+fill-marked-spec =
+    tie.close
+    (tie.spec
+    Inv-loop
+    μ-loop
+    first-bit-requires
+    loop-holds
+    present-until-requires
+    fill-present-requires
+    sub-at
+    mul-at
+    add-at
+    clear-missing-requires
+    loop-less
+    loop-again
+    same-length
+    same-length-2
+    returns)

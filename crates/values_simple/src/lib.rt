@@ -1,0 +1,144 @@
+// Simple packing (5.0): the doubles and the presence of a field's points, written into runs lent for them.
+ghost use mathlib.Core.Path.{_≡_};
+ghost use Prim.Native.Nat.{_+_, _-_, _*_, _/_, _≤_};
+ghost use lib.ListN.{length};
+ghost use Rattle.laws_rows.specs.Rows.{row};
+ghost use Rattle.bits.specs.Bits.{bitAt};
+ghost use Rattle.values_points.specs.Points.{doubleAt};
+ghost use Rattle.section_6.specs.Presence.{onesBefore};
+ghost use Rattle.values_points.specs.Written.{Written};
+ghost use Rattle.values_integers.specs.Integers.{simpleInteger};
+ghost use Rattle.values_simple.specs.Simple.{numbersFrom};
+use doubles::Packing;
+use octets::BitPlace;
+use octets::OctetNumber;
+
+// Writes points that are all present, from `from` up to `to`, whose numbers start at bit `first`: one by one.
+fn fill_each(
+    section: &[u8],
+    bits: u32,
+    packing: Packing,
+    values: &mut [f64],
+    presence: &mut [u8],
+    from: usize,
+    to: usize,
+    first: usize,
+)
+    requires { ⌜ (length (now presence) ≡ length (now values)) × (length (now values) ≤ 16777216) × (first ≤ 2199023255552) ⌝ }
+    requires { ⌜ (from ≤ to) × (to ≤ length (now values)) × (bits ≤ 31) ⌝ }
+    ensures { λ _. ⌜ Written (λ _. 1) (λ i. i) packing (numbersFrom (now (section .entry)) bits first) (to - from) from to (now (values .entry)) (now (values .exit)) (now (presence .entry)) (now (presence .exit)) ⌝ }
+{
+    let mut at = first;
+    let mut i = from;
+    while i < to {
+        values[i] = doubles::rebuild(packing, bits_reader::take(section, BitPlace(at), bits));
+        presence[i] = 1;
+        at += bits as usize;
+        i += 1;
+    }
+}
+
+// The same for so many pairs of points, where eight octets are left at each of their numbers.
+fn fill_pairs(
+    section: &[u8],
+    bits: u32,
+    packing: Packing,
+    values: &mut [f64],
+    presence: &mut [u8],
+    from: usize,
+    pairs: usize,
+    first: usize,
+)
+    requires { ⌜ (length (now presence) ≡ length (now values)) × (length (now values) ≤ 16777216) × (first ≤ 1099511627776) ⌝ }
+    requires { ⌜ (from + 2 * pairs ≤ length (now values)) × (bits ≤ 28) × ((first + 2 * pairs * bits) / 8 + 8 ≤ length (now section)) ⌝ }
+    ensures { λ _. ⌜ Written (λ _. 1) (λ i. i) packing (numbersFrom (now (section .entry)) bits first) (2 * pairs) from (from + 2 * pairs) (now (values .entry)) (now (values .exit)) (now (presence .entry)) (now (presence .exit)) ⌝ }
+{
+    let end = from + 2 * pairs;
+    let mut at = first;
+    let mut i = from;
+    while i < end {
+        let pair = bits_reader::take_pair(section, BitPlace(at), bits);
+        values[i] = doubles::rebuild(packing, pair.first);
+        presence[i] = 1;
+        values[i + 1] = doubles::rebuild(packing, pair.second);
+        presence[i + 1] = 1;
+        at += 2 * bits as usize;
+        i += 2;
+    }
+}
+
+// Writes points that are all present, from `from` up to `to`, whose numbers start at bit `first`.
+fn fill_present(
+    section: &[u8],
+    bits: u32,
+    packing: Packing,
+    values: &mut [f64],
+    presence: &mut [u8],
+    from: usize,
+    to: usize,
+    first: usize,
+)
+    requires { ⌜ (length (now presence) ≡ length (now values)) × (length (now values) ≤ 16777216) × (first ≤ 1099511627776) ⌝ }
+    requires { ⌜ (from ≤ to) × (to ≤ length (now values)) × (bits ≤ 31) ⌝ }
+    ensures { λ _. ⌜ Written (λ _. 1) (λ i. i) packing (numbersFrom (now (section .entry)) bits first) (to - from) from to (now (values .entry)) (now (values .exit)) (now (presence .entry)) (now (presence .exit)) ⌝ }
+{
+    let pairs = bits::pairs_in(section.len(), BitPlace(first), bits, to - from);
+    if pairs == 0 {
+        fill_each(section, bits, packing, values, presence, from, to, first);
+    } else {
+        let paired = 2 * pairs;
+        fill_pairs(section, bits, packing, values, presence, from, pairs, first);
+        fill_each(
+            section,
+            bits,
+            packing,
+            values,
+            presence,
+            from + paired,
+            to,
+            first + paired * bits as usize,
+        );
+    }
+}
+
+// Fills the runs for a field whose points are all present.
+pub fn fill_all(
+    section: &[u8],
+    bits: u32,
+    packing: Packing,
+    values: &mut [f64],
+    presence: &mut [u8],
+)
+    requires { ⌜ (length (now presence) ≡ length (now values)) × (length (now values) ≤ 16777216) × (bits ≤ 31) ⌝ }
+    ensures { λ _. ⌜ now (values .exit) ≡ row (doubleAt packing (simpleInteger (now (section .entry)) bits) (λ _. 1) (λ i. i)) (length (now (values .entry))) ⌝ }
+    ensures { λ _. ⌜ now (presence .exit) ≡ row (λ _. 1) (length (now (values .entry))) ⌝ }
+{
+    let first = octets::first_bit(OctetNumber(6));
+    let n = values.len();
+    fill_present(section, bits, packing, values, presence, 0, n, first.0);
+}
+
+// Fills the runs for a field with a bitmap: by turns a stretch of points that are present, and one of points that are missing.
+pub fn fill_marked(
+    section: &[u8],
+    bitmap: &[u8],
+    bits: u32,
+    packing: Packing,
+    values: &mut [f64],
+    presence: &mut [u8],
+)
+    requires { ⌜ (length (now presence) ≡ length (now values)) × (length (now values) ≤ 16777216) × (bits ≤ 31) ⌝ }
+    requires { ⌜ length (now values) ≤ 8 * length (now bitmap) ⌝ }
+    ensures { λ _. ⌜ now (values .exit) ≡ row (doubleAt packing (simpleInteger (now (section .entry)) bits) (bitAt (now (bitmap .entry))) (onesBefore (now (bitmap .entry)))) (length (now (values .entry))) ⌝ }
+    ensures { λ _. ⌜ now (presence .exit) ≡ row (bitAt (now (bitmap .entry))) (length (now (values .entry))) ⌝ }
+{
+    let first = octets::first_bit(OctetNumber(6));
+    let mut at = first.0;
+    let mut i: usize = 0;
+    while i < values.len() {
+        let until = values_points::present_until(bitmap, i, values.len());
+        fill_present(section, bits, packing, values, presence, i, until, at);
+        at += (until - i) * bits as usize;
+        i = values_points::clear_missing(bitmap, values, presence, until);
+    }
+}
