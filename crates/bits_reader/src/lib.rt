@@ -1,14 +1,41 @@
 // The bit reader: a section's octets and a bit place in them. It is thin: each function takes it apart and calls one on the slice and the place.
+// Reading moves it: whoever reads a number has the reader behind that number.
 ghost use mathlib.Core.Path.{_≡_};
-ghost use Prim.Native.Nat.{_+_, _/_, _≤_, _<_, _^_};
+ghost use Prim.Native.Nat.{_+_, _*_, _/_, _≤_, _<_, _^_};
 ghost use lib.ListN.{length};
 ghost use Rattle.bits.specs.Bits.{bitsAt};
+ghost use Rattle.bits_reader.specs.Reading.{Found, PairFound};
 use bits::Pair;
 use octets::BitPlace;
 
 pub struct BitReader<'a> {
     pub run: &'a [u8],
     pub at: BitPlace,
+}
+
+// A number that was read, and the reader behind it.
+pub struct Read<'a> {
+    pub number: u32,
+    pub reader: BitReader<'a>,
+}
+
+// Two numbers that were read, and the reader behind them.
+pub struct ReadPair<'a> {
+    pub pair: Pair,
+    pub reader: BitReader<'a>,
+}
+
+// A number that was taken, and the place behind it.
+pub struct Taken {
+    pub number: u32,
+    pub next: BitPlace,
+}
+
+// Two numbers that were taken, and the place behind them.
+pub struct TakenPair {
+    pub first: u32,
+    pub second: u32,
+    pub next: BitPlace,
 }
 
 // A reader of a run, at a place.
@@ -18,44 +45,60 @@ pub fn new<'a>(run: &'a [u8], at: BitPlace) -> BitReader<'a>
     BitReader { run, at }
 }
 
-// The number of b bits where the reader stands.
-pub fn next<'a>(reader: BitReader<'a>, b: u32) -> u32
+// The number of b bits where the reader stands, and the reader behind it.
+pub fn next<'a>(reader: BitReader<'a>, b: u32) -> Read<'a>
     requires { ⌜ (reader .at .0 + b < 2 ^ 64) × (b ≤ 32) ⌝ }
-    ensures { λ r. ⌜ r ≡ bitsAt (now (reader .entry .run)) (reader .entry .at .0) b ⌝ }
+    ensures { λ r. ⌜ Found (reader .entry) b r ⌝ }
 {
-    bits::read_bits(reader.run, reader.at, b)
-}
-
-// The two numbers of b bits where the reader stands, where eight octets are left.
-pub fn next_pair<'a>(reader: BitReader<'a>, b: u32) -> Pair
-    requires { ⌜ (reader .at .0 / 8 + 8 ≤ length (now (reader .run))) × (b ≤ 28) ⌝ }
-    ensures { λ r. ⌜ (r .first ≡ bitsAt (now (reader .entry .run)) (reader .entry .at .0) b) × (r .second ≡ bitsAt (now (reader .entry .run)) (reader .entry .at .0 + b) b) ⌝ }
-{
-    bits::read_pair(reader.run, reader.at, b)
-}
-
-// The same reader at another place.
-pub fn moved<'a>(reader: BitReader<'a>, at: BitPlace) -> BitReader<'a>
-    ensures { λ r. ⌜ (r .run ≡ reader .entry .run) × (r .at ≡ at) ⌝ }
-{
-    BitReader {
-        run: reader.run,
-        at,
+    let run = reader.run;
+    let at = reader.at;
+    Read {
+        number: bits::read_bits(run, at, b),
+        reader: BitReader {
+            run,
+            at: bits::after(at, b),
+        },
     }
 }
 
-// The number of b bits at a place of a run, by way of a reader. Its contract names no reader, so whoever calls it, in a loop too, needs no walk.
-pub fn take(run: &[u8], at: BitPlace, b: u32) -> u32
-    requires { ⌜ (at .0 + b < 2 ^ 64) × (b ≤ 32) ⌝ }
-    ensures { λ r. ⌜ r ≡ bitsAt (now (run .entry)) (at .0) b ⌝ }
+// The two numbers of b bits where the reader stands, where eight octets are left, and the reader behind them.
+pub fn next_pair<'a>(reader: BitReader<'a>, b: u32) -> ReadPair<'a>
+    requires { ⌜ (reader .at .0 / 8 + 8 ≤ length (now (reader .run))) × (b ≤ 28) × (reader .at .0 + 2 * b < 2 ^ 64) ⌝ }
+    ensures { λ r. ⌜ PairFound (reader .entry) b r ⌝ }
 {
-    next(new(run, at), b)
+    let run = reader.run;
+    let at = reader.at;
+    ReadPair {
+        pair: bits::read_pair(run, at, b),
+        reader: BitReader {
+            run,
+            at: bits::after(bits::after(at, b), b),
+        },
+    }
 }
 
-// The two numbers of b bits at a place of a run in which eight octets are left, by way of a reader.
-pub fn take_pair(run: &[u8], at: BitPlace, b: u32) -> Pair
-    requires { ⌜ (at .0 / 8 + 8 ≤ length (now run)) × (b ≤ 28) ⌝ }
-    ensures { λ r. ⌜ (r .first ≡ bitsAt (now (run .entry)) (at .0) b) × (r .second ≡ bitsAt (now (run .entry)) (at .0 + b) b) ⌝ }
+// The number of b bits at a place of a run, and the place behind it, by way of a reader. Its contract names no reader, so whoever calls it, in a
+// loop too, needs no walk.
+pub fn take(run: &[u8], at: BitPlace, b: u32) -> Taken
+    requires { ⌜ (at .0 + b < 2 ^ 64) × (b ≤ 32) ⌝ }
+    ensures { λ r. ⌜ (r .number ≡ bitsAt (now (run .entry)) (at .0) b) × (r .next .0 ≡ at .0 + b) ⌝ }
 {
-    next_pair(new(run, at), b)
+    let read = next(new(run, at), b);
+    Taken {
+        number: read.number,
+        next: read.reader.at,
+    }
+}
+
+// The two numbers of b bits at a place of a run in which eight octets are left, and the place behind them, by way of a reader.
+pub fn take_pair(run: &[u8], at: BitPlace, b: u32) -> TakenPair
+    requires { ⌜ (at .0 / 8 + 8 ≤ length (now run)) × (b ≤ 28) × (at .0 + 2 * b < 2 ^ 64) ⌝ }
+    ensures { λ r. ⌜ (r .first ≡ bitsAt (now (run .entry)) (at .0) b) × (r .second ≡ bitsAt (now (run .entry)) (at .0 + b) b) × (r .next .0 ≡ at .0 + 2 * b) ⌝ }
+{
+    let read = next_pair(new(run, at), b);
+    TakenPair {
+        first: read.pair.first,
+        second: read.pair.second,
+        next: read.reader.at,
+    }
 }

@@ -55,7 +55,7 @@ module _ {M : Type 1} (𝓤 : URA M) (H : Heap 𝓤) (𝓜 : Model 𝓤 H) (𝓖
       qed W (raw (New .pre passed) ∷ []) ∵ enter ! _ _ _ _ _ $ alloc1 ! (λ _. alloc1 ! (λ _. alloc1 ! (λ _. alloc0 ! $ params1 ! $
       pass1 ! (init ! 2 refl (run-typed W (named 0) κ run is-run .0)) $ pass1 ! (init ! 0 refl (place-typed W place is-place .0)) $ pass0 ! $
       assigns ! (agg ! (and-then ! (copied ! 2 refl) (and-then ! (copied ! 0 refl) (no-more !)))) (here !)
-      (init ! 4 refl (reader-typed W (named 0) κ made _ (reader-known κ made is-run is-place))) $
+      (init ! 4 refl (reader-typed W (named 0) κ made (reader-known κ made is-run is-place) .0)) $
       returns ! (look ! 4 refl) $ freed ! 4 refl $ freed ! 2 refl $ freed ! 0 refl $ free0 ! $ by ! exits)))
 
 pub new-spec : {M : Type 1} → stated.statement M
