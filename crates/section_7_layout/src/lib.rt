@@ -69,7 +69,8 @@ pub fn stored(run: &[u8], first: OctetNumber, b: u32, i: u32) -> u32
     ensures { λ r. ⌜ (r ≡ bitsAt (now (run .entry)) (firstBit (first .0) + i * b) b) × (r < 2 ^ 31) ⌝ }
 {
     let start = octets::first_bit(first);
-    bits_reader::take(run, BitPlace(start.0 + i as usize * b as usize), b)
+    let taken = bits_reader::take(run, BitPlace(start.0 + i as usize * b as usize), b);
+    taken.number
 }
 
 // The width of group i.

@@ -13,19 +13,19 @@ first-bit-requires c κs = search needs
 before : (c : tie.After-first-bit) → let a = c .before .before .args in a .i * a .b < 2 ^ 37
 before c = run-fits (omega arith) (c .before .before .pre .2)
 
-mul-t8 : tie.Need-mul-t8
-mul-t8 c = omega (arith, before c)
+mul-t9 : tie.Need-mul-t9
+mul-t9 c = omega (arith, before c)
 
-add-t9 : tie.Need-add-t9
-add-t9 c = omega (arith, before (c .before))
+add-t10 : tie.Need-add-t10
+add-t10 c = omega (arith, before (c .before))
 
 take-requires : tie.Need-take-requires
 take-requires c κs = omega (arith, before (c .before))
 
 returns : tie.Need-returns
 returns c =
-    let read = rw (c .before .before .first-bit .ensures) at (c .take .ensures) in
+    let read = rw (c .before .before .first-bit .ensures) at (c .take .ensures .0) in
     (read, rw read (stored-fits _ _ (c .before .before .before .before .pre .2)))
 
 pub stored-spec : {M : Type 1} → statement M
-stored-spec = tie.close (tie.spec first-bit-requires mul-t8 add-t9 take-requires returns)
+stored-spec = tie.close (tie.spec first-bit-requires mul-t9 add-t10 take-requires returns)
