@@ -43,7 +43,8 @@ fn read_bits(question: &[u8])
     let b = question[2] as u32 % 33;
     let run = &question[8..];
     io::write_all(STDOUT_FILENO, b"bits ");
-    io::print_decimal(STDOUT_FILENO, bits_reader::take(run, at, b) as u64);
+    let taken = bits_reader::take(run, at, b);
+    io::print_decimal(STDOUT_FILENO, taken.number as u64);
 }
 
 fn unit_of(n: u8) -> Unit {
