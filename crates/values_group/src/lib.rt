@@ -57,12 +57,13 @@ fn judge_each(section: &[u8], group: Group, latest: u64, earlier: u64) -> Worked
     let base = group.base;
     let lowered = group.lowered;
     let count = group.count;
-    let mut at = group.from.0;
+    let mut at = group.from;
     let mut x = latest;
     let mut before = earlier;
     let mut done: u64 = 0;
     while done < count {
-        let up = bits_reader::take(section, BitPlace(at), width) as u64 + base + 2 * x;
+        let taken = bits_reader::take(section, at, width);
+        let up = taken.number as u64 + base + 2 * x;
         let down = before + lowered;
         if up < down {
             return Worked::Out;
@@ -72,7 +73,7 @@ fn judge_each(section: &[u8], group: Group, latest: u64, earlier: u64) -> Worked
         }
         before = x;
         x = up - down;
-        at += width as usize;
+        at = taken.next;
         done += 1;
     }
     Worked::Kept { x, before }
@@ -86,13 +87,13 @@ fn judge_pairs(section: &[u8], group: Group, pairs: u64, latest: u64, earlier: u
     let width = group.width;
     let base = group.base;
     let lowered = group.lowered;
-    let mut at = group.from.0;
+    let mut at = group.from;
     let mut x = latest;
     let mut before = earlier;
     let mut done: u64 = 0;
     while done < pairs {
-        let pair = bits_reader::take_pair(section, BitPlace(at), width);
-        let up = pair.first as u64 + base + 2 * x;
+        let taken = bits_reader::take_pair(section, at, width);
+        let up = taken.first as u64 + base + 2 * x;
         let down = before + lowered;
         if up < down {
             return Worked::Out;
@@ -101,7 +102,7 @@ fn judge_pairs(section: &[u8], group: Group, pairs: u64, latest: u64, earlier: u
             return Worked::Out;
         }
         let next = up - down;
-        let higher = pair.second as u64 + base + 2 * next;
+        let higher = taken.second as u64 + base + 2 * next;
         let deeper = x + lowered;
         if higher < deeper {
             return Worked::Out;
@@ -111,7 +112,7 @@ fn judge_pairs(section: &[u8], group: Group, pairs: u64, latest: u64, earlier: u
         }
         before = next;
         x = higher - deeper;
-        at += 2 * width as usize;
+        at = taken.next;
         done += 1;
     }
     Worked::Kept { x, before }
@@ -153,18 +154,19 @@ fn fill_each(
     let base = group.base;
     let lowered = group.lowered;
     let end = reached.point + group.count as usize;
-    let mut at = group.from.0;
+    let mut at = group.from;
     let mut x = reached.x;
     let mut before = reached.before;
     let mut i = reached.point;
     while i < end {
-        let up = bits_reader::take(section, BitPlace(at), width) as u64 + base + 2 * x;
+        let taken = bits_reader::take(section, at, width);
+        let up = taken.number as u64 + base + 2 * x;
         let next = up - (before + lowered);
         values[i] = doubles::rebuild(packing, (next % 0x8000_0000) as u32);
         presence[i] = 1;
         before = x;
         x = next;
-        at += width as usize;
+        at = taken.next;
         i += 1;
     }
     Reached {
@@ -195,15 +197,15 @@ fn fill_pairs(
     let base = group.base;
     let lowered = group.lowered;
     let end = reached.point + 2 * pairs as usize;
-    let mut at = group.from.0;
+    let mut at = group.from;
     let mut x = reached.x;
     let mut before = reached.before;
     let mut i = reached.point;
     while i < end {
-        let pair = bits_reader::take_pair(section, BitPlace(at), width);
-        let up = pair.first as u64 + base + 2 * x;
+        let taken = bits_reader::take_pair(section, at, width);
+        let up = taken.first as u64 + base + 2 * x;
         let next = up - (before + lowered);
-        let higher = pair.second as u64 + base + 2 * next;
+        let higher = taken.second as u64 + base + 2 * next;
         let third = higher - (x + lowered);
         values[i] = doubles::rebuild(packing, (next % 0x8000_0000) as u32);
         presence[i] = 1;
@@ -211,7 +213,7 @@ fn fill_pairs(
         presence[i + 1] = 1;
         before = next;
         x = third;
-        at += 2 * width as usize;
+        at = taken.next;
         i += 2;
     }
     Reached {
@@ -273,19 +275,20 @@ pub fn fill_marked(
     let base = group.base;
     let lowered = group.lowered;
     let count = group.count;
-    let mut at = group.from.0;
+    let mut at = group.from;
     let mut x = reached.x;
     let mut before = reached.before;
     let mut point = reached.point;
     let mut done: u64 = 0;
     while done < count {
-        let up = bits_reader::take(section, BitPlace(at), width) as u64 + base + 2 * x;
+        let taken = bits_reader::take(section, at, width);
+        let up = taken.number as u64 + base + 2 * x;
         let next = up - (before + lowered);
         let own = (next % 0x8000_0000) as u32;
         point = values_points::write_next(bitmap, packing, own, values, presence, point);
         before = x;
         x = next;
-        at += width as usize;
+        at = taken.next;
         done += 1;
     }
     Reached { x, before, point }

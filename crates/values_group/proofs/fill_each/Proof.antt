@@ -17,9 +17,9 @@ use Rattle.values_group.proofs.fill_each.Tie as tie
 abbrev Inv-loop : tie.InvT-loop
 Inv-loop section packing values₀ presence₀ width base lowered end at₀ x₀ before₀ i₀ values presence at x before i =
     (i₀ ≤ i) × (i ≤ end) × (length values ≡ length values₀) × (length presence ≡ length presence₀)
-    × (at ≡ at₀ + (i - i₀) * width) × (at ≤ at₀ + (i - i₀) * 31) × (x ≤ mostX) × (before ≤ mostX)
-    × ((count : ℕ) → workedBy section (groupOf at₀ width base lowered count) (Worked.Kept x₀ before₀) (i - i₀) ≡ Worked.Kept x before)
-    × ((count : ℕ) → WrittenAll section (groupOf at₀ width base lowered count) x₀ before₀ packing i₀ i values₀ values presence₀ presence)
+    × (at .0 ≡ at₀ .0 + (i - i₀) * width) × (at .0 ≤ at₀ .0 + (i - i₀) * 31) × (x ≤ mostX) × (before ≤ mostX)
+    × ((count : ℕ) → workedBy section (groupOf (at₀ .0) width base lowered count) (Worked.Kept x₀ before₀) (i - i₀) ≡ Worked.Kept x before)
+    × ((count : ℕ) → WrittenAll section (groupOf (at₀ .0) width base lowered count) x₀ before₀ packing i₀ i values₀ values presence₀ presence)
 
 abbrev μ-loop : tie.MeasureT-loop
 μ-loop section packing values₀ presence₀ width base lowered end at₀ x₀ before₀ i₀ values presence at x before i = end - i
@@ -27,33 +27,33 @@ abbrev μ-loop : tie.MeasureT-loop
 -- The group of a turn, with any count.
 abbrev counting : tie.After-take Inv-loop μ-loop → ℕ → Group
 counting c =
-    let g = c .before .before .before .before .before .before .before .args .group in
+    let g = c .before .before .before .before .before .before .before .before .args .group in
     groupOf (g .from .0) (g .width) (g .base) (g .lowered)
 
 -- The next integer is in its range, as all of the group's are.
 ranged : (c : tie.After-take Inv-loop μ-loop) →
     let l = c .before .before .loop in
-    InRange (l .x) (c .take .result + counting c 0 .base + 2 * l .x) (l .before + counting c 0 .lowered)
+    InRange (l .x) (c .take .result .number + counting c 0 .base + 2 * l .x) (l .before + counting c 0 .lowered)
 ranged c =
     let l = c .before .before .loop in
-    let start = c .before .before .before .before .before .before .before in
+    let start = c .before .before .before .before .before .before .before .before in
     let a = start .args in
     let done = l .i - a .reached .point in
-    read-in-range (a .section .now) (a .group) (Worked.Kept (a .reached .x) (a .reached .before)) done (l .x) (l .before) (l .at) (c .take .result)
-    (l .inv .8 (a .group .count)) (l .inv .4) (c .take .ensures) (a .group .count) (omega arith) (start .pre .1 .0)
+    read-in-range (a .section .now) (a .group) (Worked.Kept (a .reached .x) (a .reached .before)) done (l .x) (l .before) (l .at .0) (c .take .result .number)
+    (l .inv .8 (a .group .count)) (l .inv .4) (c .take .ensures .0) (a .group .count) (omega arith) (start .pre .1 .0)
 
 -- The next integer is kept.
 following : (c : tie.After-take Inv-loop μ-loop) (count : ℕ) →
     let l = c .before .before .loop in
-    let a = c .before .before .before .before .before .before .before .args in
+    let a = c .before .before .before .before .before .before .before .before .args in
     workedBy (a .section .now) (counting c count) (Worked.Kept (a .reached .x) (a .reached .before)) (l .i - a .reached .point + 1)
-    ≡ Worked.Kept (c .take .result + a .group .base + 2 * l .x - (l .before + a .group .lowered)) (l .x)
+    ≡ Worked.Kept (c .take .result .number + a .group .base + 2 * l .x - (l .before + a .group .lowered)) (l .x)
 following c count =
     let l = c .before .before .loop in
-    let a = c .before .before .before .before .before .before .before .args in
+    let a = c .before .before .before .before .before .before .before .before .args in
     let done = l .i - a .reached .point in
-    worked-read (a .section .now) (counting c count) (Worked.Kept (a .reached .x) (a .reached .before)) done (l .x) (l .before) (l .at) (c .take .result)
-    (l .inv .8 count) (l .inv .4) (c .take .ensures)
+    worked-read (a .section .now) (counting c count) (Worked.Kept (a .reached .x) (a .reached .before)) done (l .x) (l .before) (l .at .0) (c .take .result .number)
+    (l .inv .8 count) (l .inv .4) (c .take .ensures .0)
     ∙ ranged c .kept
 
 add-end : tie.Need-add-end Inv-loop μ-loop
@@ -62,7 +62,7 @@ add-end c = search needs
 loop-holds : tie.Need-loop-holds Inv-loop μ-loop
 unfolding workedBy
 loop-holds c =
-    let start = c .before .before .before .before in
+    let start = c .before .before .before .before .before in
     let a = start .args in
     let g : ℕ → Group = groupOf (a .group .from .0) (a .group .width) (a .group .base) (a .group .lowered) in
     let none : a .reached .point - a .reached .point ≡ 0 = omega arith in (
@@ -97,7 +97,7 @@ add-next : tie.Need-add-next Inv-loop μ-loop
 add-next c = search needs
 
 sub-next : tie.Need-sub-next Inv-loop μ-loop
-sub-next c = ranged c .low
+sub-next c = ranged (c .before) .low
 
 cast-rebuild : tie.Need-cast-rebuild Inv-loop μ-loop
 cast-rebuild c = search needs
@@ -114,12 +114,6 @@ slice-write-values c = search needs
 slice-write-presence : tie.Need-slice-write-presence Inv-loop μ-loop
 slice-write-presence c = search needs
 
-cast-at : tie.Need-cast-at Inv-loop μ-loop
-cast-at c = search needs
-
-add-at : tie.Need-add-at Inv-loop μ-loop
-add-at c = search needs
-
 add-i : tie.Need-add-i Inv-loop μ-loop
 add-i c = search needs
 
@@ -128,22 +122,24 @@ loop-less c = search needs
 
 loop-again : tie.Need-loop-again Inv-loop μ-loop
 loop-again c =
-    let l = c .before .before .before .loop in
-    let a = c .before .before .before .before .before .before .before .before .args in
+    let t = c .before .before .before in
+    let l = t .before .before .loop in
+    let s = t .before .before .before .before .before .before .before .before in
+    let a = s .args in
     let latest = a .reached .x in
     let earlier = a .reached .before in
     let point = a .reached .point in
     let later : l .i + 1 - point ≡ l .i - point + 1 = omega arith in (
       omega arith,
       omega arith,
-      length-set (l .values) (l .i) (c .rebuild .result) ∙ l .inv .2,
+      length-set (l .values) (l .i) (c .before .rebuild .result) ∙ l .inv .2,
       length-set (l .presence) (l .i) 1 ∙ l .inv .3,
-      rw later (place-more (a .group .from .0) (l .i - point) (a .group .width) (l .at) (l .inv .4)),
+      rw later (t .take .ensures .1 ∙ place-more (a .group .from .0) (l .i - point) (a .group .width) (l .at .0) (l .inv .4)),
       omega arith,
-      ranged (c .before) .high,
+      ranged t .high,
       l .inv .6,
-      λ count. rw later (following (c .before) count),
-      λ count. all-more (a .section .now) (counting (c .before) count) latest earlier (a .packing) (l .inv .9 count) (omega arith) (following (c .before) count) (c .rebuild .ensures ∙ ap (rebuilt (a .packing)) (own-remainder (ranged (c .before) .high))),
+      λ count. rw later (following t count),
+      λ count. all-more (a .section .now) (counting t count) latest earlier (a .packing) (l .inv .9 count) (omega (arith, t .before .loop-test .taken, s .pre .1 .1 .1)) (following t count) (c .before .rebuild .ensures ∙ ap (rebuilt (a .packing)) (own-remainder (ranged t .high))),
     )
 
 same-length : tie.Need-same-length Inv-loop μ-loop
@@ -155,7 +151,7 @@ same-length-2 c = c .before .loop .inv .3
 returns : tie.Need-returns Inv-loop μ-loop
 returns c =
     let l = c .before .loop in
-    let a = c .before .before .before .before .before .before .args in
+    let a = c .before .before .before .before .before .before .before .args in
     let all : l .i - a .reached .point ≡ a .group .count = omega arith in (
       sym (ap (workedBy (a .section .now) (a .group) (Worked.Kept (a .reached .x) (a .reached .before))) all) ∙ l .inv .8 (a .group .count),
       rw all at (l .inv .9 (a .group .count)),
@@ -181,8 +177,6 @@ fill-each-spec =
     mul-values
     slice-write-values
     slice-write-presence
-    cast-at
-    add-at
     add-i
     loop-less
     loop-again

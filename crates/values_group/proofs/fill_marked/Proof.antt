@@ -20,16 +20,16 @@ use Rattle.values_group.proofs.fill_marked.Tie as tie
 abbrev Inv-loop : tie.InvT-loop
 Inv-loop section bitmap packing values₀ presence₀ width base lowered count at₀ x₀ before₀ i₀ done₀ values presence at x before i done =
     (done ≤ count) × (length values ≡ length values₀) × (length presence ≡ length presence₀)
-    × (at ≡ at₀ + done * width) × (at ≤ at₀ + done * 31) × (x ≤ mostX) × (before ≤ mostX)
-    × (workedBy section (groupOf at₀ width base lowered count) (Worked.Kept x₀ before₀) done ≡ Worked.Kept x before)
-    × Written (bitAt bitmap) (onesBefore bitmap) packing (integerBy section (groupOf at₀ width base lowered count) x₀ before₀) done i₀ i values₀ values presence₀ presence
+    × (at .0 ≡ at₀ .0 + done * width) × (at .0 ≤ at₀ .0 + done * 31) × (x ≤ mostX) × (before ≤ mostX)
+    × (workedBy section (groupOf (at₀ .0) width base lowered count) (Worked.Kept x₀ before₀) done ≡ Worked.Kept x before)
+    × Written (bitAt bitmap) (onesBefore bitmap) packing (integerBy section (groupOf (at₀ .0) width base lowered count) x₀ before₀) done i₀ i values₀ values presence₀ presence
 
 abbrev μ-loop : tie.MeasureT-loop
 μ-loop section bitmap packing values₀ presence₀ width base lowered count at₀ x₀ before₀ i₀ done₀ values presence at x before i done = count - done
 
 -- The function's entry, from behind the number that was taken.
 abbrev Begun : tie.After-take Inv-loop μ-loop → tie.Start Inv-loop μ-loop
-Begun c = c .before .before .before .before .before .before .before
+Begun c = c .before .before .before .before .before .before .before .before
 
 abbrev integers : tie.Start Inv-loop μ-loop → ℕ → ℕ
 integers s = integerBy (s .args .section .now) (s .args .group) (s .args .reached .x) (s .args .reached .before)
@@ -37,30 +37,30 @@ integers s = integerBy (s .args .section .now) (s .args .group) (s .args .reache
 -- The next integer is in its range, as all of the group's are.
 ranged : (c : tie.After-take Inv-loop μ-loop) →
     let l = c .before .before .loop in
-    InRange (l .x) (c .take .result + Begun c .args .group .base + 2 * l .x) (l .before + Begun c .args .group .lowered)
+    InRange (l .x) (c .take .result .number + Begun c .args .group .base + 2 * l .x) (l .before + Begun c .args .group .lowered)
 ranged c =
     let l = c .before .before .loop in
     let a = Begun c .args in
-    read-in-range (a .section .now) (a .group) (Worked.Kept (a .reached .x) (a .reached .before)) (l .done) (l .x) (l .before) (l .at) (c .take .result)
-    (l .inv .7) (l .inv .3) (c .take .ensures) (a .group .count) (omega arith) (Begun c .pre .1 .0)
+    read-in-range (a .section .now) (a .group) (Worked.Kept (a .reached .x) (a .reached .before)) (l .done) (l .x) (l .before) (l .at .0) (c .take .result .number)
+    (l .inv .7) (l .inv .3) (c .take .ensures .0) (a .group .count) (omega arith) (Begun c .pre .1 .0)
 
 -- It is kept.
 following : (c : tie.After-take Inv-loop μ-loop) →
     let l = c .before .before .loop in
     let a = Begun c .args in
     workedBy (a .section .now) (a .group) (Worked.Kept (a .reached .x) (a .reached .before)) (l .done + 1)
-    ≡ Worked.Kept (c .take .result + a .group .base + 2 * l .x - (l .before + a .group .lowered)) (l .x)
+    ≡ Worked.Kept (c .take .result .number + a .group .base + 2 * l .x - (l .before + a .group .lowered)) (l .x)
 following c =
     let l = c .before .before .loop in
     let a = Begun c .args in
-    worked-read (a .section .now) (a .group) (Worked.Kept (a .reached .x) (a .reached .before)) (l .done) (l .x) (l .before) (l .at) (c .take .result)
-    (l .inv .7) (l .inv .3) (c .take .ensures)
+    worked-read (a .section .now) (a .group) (Worked.Kept (a .reached .x) (a .reached .before)) (l .done) (l .x) (l .before) (l .at .0) (c .take .result .number)
+    (l .inv .7) (l .inv .3) (c .take .ensures .0)
     ∙ ranged c .kept
 
 loop-holds : tie.Need-loop-holds Inv-loop μ-loop
 unfolding workedBy
 loop-holds c =
-    let s = c .before .before .before .before in
+    let s = c .before .before .before .before .before in
     let run = s .args .bitmap .now in (
       omega arith,
       refl,
@@ -92,22 +92,16 @@ add-next : tie.Need-add-next Inv-loop μ-loop
 add-next c = search needs
 
 sub-next : tie.Need-sub-next Inv-loop μ-loop
-sub-next c = ranged c .low
+sub-next c = ranged (c .before) .low
 
 cast-own : tie.Need-cast-own Inv-loop μ-loop
 cast-own c = search needs
 
 write-next-requires : tie.Need-write-next-requires Inv-loop μ-loop
 write-next-requires c κs =
-    let taken = c .before .before in
+    let taken = c .before .before .before in
     let l = taken .before .before .loop in
-    omega (arith, l .inv .8 .used, l .inv .8 .within, ap (onesBefore (Begun taken .args .bitmap .now)) (l .inv .1))
-
-cast-at : tie.Need-cast-at Inv-loop μ-loop
-cast-at c = search needs
-
-add-at : tie.Need-add-at Inv-loop μ-loop
-add-at c = search needs
+    omega (arith, l .inv .8 .used, l .inv .8 .within, ap (onesBefore (Begun taken .args .bitmap .now)) (l .inv .1), Begun taken .pre .1 .1)
 
 add-done : tie.Need-add-done Inv-loop μ-loop
 add-done c = search needs
@@ -117,13 +111,13 @@ loop-less c = search needs
 
 loop-again : tie.Need-loop-again Inv-loop μ-loop
 loop-again c =
-    let write = c .before .before .before .before in
-    let taken = write .before .before .before in
+    let write = c .before .before .before .before .before in
+    let taken = write .before .before .before .before in
     let l = taken .before .before .loop in
     let s = Begun taken in
     let run = s .args .bitmap .now in
     let next = following taken in
-    let x : ℕ = taken .take .result + s .args .group .base + 2 * l .x - (l .before + s .args .group .lowered) in
+    let x : ℕ = taken .take .result .number + s .args .group .base + 2 * l .x - (l .before + s .args .group .lowered) in
     let given : (k : ℕ) → k < 1 → x % 2147483648 ≡ integers s (l .done + k) =
     λ k h.
     let only : suc (l .done + k) ≡ l .done + 1 = omega arith in
@@ -131,8 +125,8 @@ loop-again c =
       omega arith,
       omega (arith, write .write-next .kept),
       omega (arith, write .write-next .kept),
-      place-more (s .args .group .from .0) (l .done) (s .args .group .width) (l .at) (l .inv .3),
-      omega (arith, l .inv .4, s .pre .0 .ofWidth),
+      taken .take .ensures .1 ∙ place-more (s .args .group .from .0) (l .done) (s .args .group .width) (l .at .0) (l .inv .3),
+      omega (arith, taken .take .ensures .1, l .inv .4, s .pre .0 .ofWidth),
       ranged taken .high,
       l .inv .5,
       next,
@@ -148,7 +142,7 @@ same-length-2 c = search needs
 returns : tie.Need-returns Inv-loop μ-loop
 returns c =
     let l = c .before .loop in
-    let s = c .before .before .before .before .before .before in
+    let s = c .before .before .before .before .before .before .before in
     let a = s .args in
     let run = a .bitmap .now in
     let all : l .done ≡ a .group .count = omega arith in (
@@ -172,8 +166,6 @@ fill-marked-spec =
     sub-next
     cast-own
     write-next-requires
-    cast-at
-    add-at
     add-done
     loop-less
     loop-again

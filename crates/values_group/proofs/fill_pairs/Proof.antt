@@ -18,16 +18,16 @@ use Rattle.values_group.proofs.fill_pairs.Tie as tie
 abbrev Inv-loop : tie.InvT-loop
 Inv-loop section pairs packing values₀ presence₀ width base lowered end at₀ x₀ before₀ i₀ values presence at x before i =
     (i₀ ≤ i) × (i ≤ end) × ((i - i₀) % 2 ≡ 0) × (length values ≡ length values₀) × (length presence ≡ length presence₀)
-    × (at ≡ at₀ + (i - i₀) * width) × (at ≤ at₀ + (i - i₀) * 31) × (x ≤ mostX) × (before ≤ mostX)
-    × ((count : ℕ) → workedBy section (groupOf at₀ width base lowered count) (Worked.Kept x₀ before₀) (i - i₀) ≡ Worked.Kept x before)
-    × ((count : ℕ) → WrittenAll section (groupOf at₀ width base lowered count) x₀ before₀ packing i₀ i values₀ values presence₀ presence)
+    × (at .0 ≡ at₀ .0 + (i - i₀) * width) × (at .0 ≤ at₀ .0 + (i - i₀) * 31) × (x ≤ mostX) × (before ≤ mostX)
+    × ((count : ℕ) → workedBy section (groupOf (at₀ .0) width base lowered count) (Worked.Kept x₀ before₀) (i - i₀) ≡ Worked.Kept x before)
+    × ((count : ℕ) → WrittenAll section (groupOf (at₀ .0) width base lowered count) x₀ before₀ packing i₀ i values₀ values presence₀ presence)
 
 abbrev μ-loop : tie.MeasureT-loop
 μ-loop section pairs packing values₀ presence₀ width base lowered end at₀ x₀ before₀ i₀ values presence at x before i = end - i
 
 -- The function's entry, from behind the pair that was taken.
 abbrev Begun : tie.After-take-pair Inv-loop μ-loop → tie.Start Inv-loop μ-loop
-Begun c = c .before .before .before .before .before .before .before
+Begun c = c .before .before .before .before .before .before .before .before
 
 -- The group of a turn, with any count.
 abbrev counting : tie.After-take-pair Inv-loop μ-loop → ℕ → Group
@@ -50,7 +50,7 @@ deeper c = c .before .before .loop .x + Begun c .args .group .lowered
 turn : (c : tie.After-take-pair Inv-loop μ-loop) →
     let l = c .before .before .loop in
     let a = Begun c .args in
-    Turned (a .reached .point) (a .pairs) (length (a .values .now)) (l .i) (l .at) (a .group .from .0) (a .group .width)
+    Turned (a .reached .point) (a .pairs) (length (a .values .now)) (l .i) (l .at .0) (a .group .from .0) (a .group .width)
 turn c =
     let l = c .before .before .loop in
     let a = Begun c .args in
@@ -62,7 +62,7 @@ ranged : (c : tie.After-take-pair Inv-loop μ-loop) → InRange (c .before .befo
 ranged c =
     let l = c .before .before .loop in
     let a = Begun c .args in
-    read-in-range (a .section .now) (a .group) (Worked.Kept (a .reached .x) (a .reached .before)) (l .i - a .reached .point) (l .x) (l .before) (l .at)
+    read-in-range (a .section .now) (a .group) (Worked.Kept (a .reached .x) (a .reached .before)) (l .i - a .reached .point) (l .x) (l .before) (l .at .0)
     (c .take-pair .result .first) (l .inv .9 (a .group .count)) (l .inv .5) (c .take-pair .ensures .0) (2 * a .pairs) (turn c .one-left) (Begun c .pre .1 .0)
 
 -- It is kept.
@@ -73,7 +73,7 @@ following : (c : tie.After-take-pair Inv-loop μ-loop) (count : ℕ) →
 following c count =
     let l = c .before .before .loop in
     let a = Begun c .args in
-    worked-read (a .section .now) (counting c count) (Worked.Kept (a .reached .x) (a .reached .before)) (l .i - a .reached .point) (l .x) (l .before) (l .at)
+    worked-read (a .section .now) (counting c count) (Worked.Kept (a .reached .x) (a .reached .before)) (l .i - a .reached .point) (l .x) (l .before) (l .at .0)
     (c .take-pair .result .first) (l .inv .9 count) (l .inv .5) (c .take-pair .ensures .0)
     ∙ ranged c .kept
 
@@ -82,7 +82,7 @@ ranged-second : (c : tie.After-take-pair Inv-loop μ-loop) → InRange (up c - d
 ranged-second c =
     let l = c .before .before .loop in
     let a = Begun c .args in
-    second-in-range (a .section .now) (a .group) (Worked.Kept (a .reached .x) (a .reached .before)) (l .i - a .reached .point) (l .x) (l .at)
+    second-in-range (a .section .now) (a .group) (Worked.Kept (a .reached .x) (a .reached .before)) (l .i - a .reached .point) (l .x) (l .at .0)
     (c .take-pair .result .second) (up c - down c) (following c (a .group .count)) (l .inv .5) (c .take-pair .ensures .1) (2 * a .pairs) (turn c .two-left) (Begun c .pre .1 .0)
 
 second : (c : tie.After-take-pair Inv-loop μ-loop) (count : ℕ) →
@@ -93,7 +93,7 @@ second : (c : tie.After-take-pair Inv-loop μ-loop) (count : ℕ) →
 second c count =
     let l = c .before .before .loop in
     let a = Begun c .args in
-    worked-second (a .section .now) (counting c count) (Worked.Kept (a .reached .x) (a .reached .before)) (l .i - a .reached .point) (l .x) (l .at)
+    worked-second (a .section .now) (counting c count) (Worked.Kept (a .reached .x) (a .reached .before)) (l .i - a .reached .point) (l .x) (l .at .0)
     (c .take-pair .result .second) (up c - down c) (following c count) (l .inv .5) (c .take-pair .ensures .1)
     ∙ ranged-second c .kept
 
@@ -106,7 +106,7 @@ add-end c = search needs
 loop-holds : tie.Need-loop-holds Inv-loop μ-loop
 unfolding workedBy
 loop-holds c =
-    let start = c .before .before .before .before in
+    let start = c .before .before .before .before .before in
     let a = start .args in
     let g : ℕ → Group = groupOf (a .group .from .0) (a .group .width) (a .group .base) (a .group .lowered) in
     let none : a .reached .point - a .reached .point ≡ 0 = omega arith in (
@@ -126,9 +126,9 @@ loop-holds c =
 take-pair-requires : tie.Need-take-pair-requires Inv-loop μ-loop
 take-pair-requires c κs =
     let l = c .before .loop in
-    let s = c .before .before .before .before .before .before in
+    let s = c .before .before .before .before .before .before .before in
     let g = s .args .group in
-    (rw (l .inv .5) (fewer-bits (g .from .0) (g .width) (2 * s .args .pairs) (omega arith) (s .pre .0 .3)), s .pre .0 .2)
+    (rw (l .inv .5) (fewer-bits (g .from .0) (g .width) (2 * s .args .pairs) (omega arith) (s .pre .0 .3)), s .pre .0 .2, omega (arith, l .inv .6, s .pre .0))
 
 cast-up : tie.Need-cast-up Inv-loop μ-loop
 cast-up c = search needs
@@ -206,15 +206,6 @@ slice-write-presence-2 c =
     let l = c .before .before .before .before .before .before .loop in
     omega (arith, length-set (l .presence) (l .i) 1)
 
-cast-at : tie.Need-cast-at Inv-loop μ-loop
-cast-at c = search needs
-
-mul-at : tie.Need-mul-at Inv-loop μ-loop
-mul-at c = search needs
-
-add-at : tie.Need-add-at Inv-loop μ-loop
-add-at c = search needs
-
 add-i : tie.Need-add-i Inv-loop μ-loop
 add-i c = search needs
 
@@ -223,7 +214,7 @@ loop-less c = search needs
 
 loop-again : tie.Need-loop-again Inv-loop μ-loop
 loop-again c =
-    let t = c .before .before .before .before in
+    let t = c .before .before .before .before .before in
     let l = t .before .before .loop in
     let a = Begun t .args in
     let latest = a .reached .x in
@@ -233,18 +224,18 @@ loop-again c =
       next .begun,
       next .inside,
       next .even,
-      length-set (set (l .values) (l .i) (c .before .rebuild .result)) (l .i + 1) (c .rebuild2 .result) ∙ length-set (l .values) (l .i) (c .before .rebuild .result) ∙ l .inv .3,
+      length-set (set (l .values) (l .i) (c .before .before .rebuild .result)) (l .i + 1) (c .before .rebuild2 .result) ∙ length-set (l .values) (l .i) (c .before .before .rebuild .result) ∙ l .inv .3,
       length-set (set (l .presence) (l .i) 1) (l .i + 1) 1 ∙ length-set (l .presence) (l .i) 1 ∙ l .inv .4,
-      rw (next .later) (pair-more (a .group .from .0) (l .i - point) (a .group .width) (l .at) (l .inv .5)),
-      next .room,
+      rw (next .later) (t .take-pair .ensures .2 ∙ pair-more (a .group .from .0) (l .i - point) (a .group .width) (l .at .0) (l .inv .5)),
+      rw (t .take-pair .ensures .2) (next .room),
       ranged-second t .high,
       ranged t .high,
       λ count. rw (next .later) (second t count),
       λ count.
           rw (next .two) (
           all-more (a .section .now) (counting t count) latest earlier (a .packing)
-          (all-more (a .section .now) (counting t count) latest earlier (a .packing) (l .inv .10 count) (next .here) (following t count) (c .before .rebuild .ensures ∙ ap (rebuilt (a .packing)) (own-remainder (ranged t .high))))
-          (next .there) (ap (workedBy (a .section .now) (counting t count) (Worked.Kept latest earlier)) (next .last) ∙ second t count) (c .rebuild2 .ensures ∙ ap (rebuilt (a .packing)) (own-remainder (ranged-second t .high)))
+          (all-more (a .section .now) (counting t count) latest earlier (a .packing) (l .inv .10 count) (next .here) (following t count) (c .before .before .rebuild .ensures ∙ ap (rebuilt (a .packing)) (own-remainder (ranged t .high))))
+          (next .there) (ap (workedBy (a .section .now) (counting t count) (Worked.Kept latest earlier)) (next .last) ∙ second t count) (c .before .rebuild2 .ensures ∙ ap (rebuilt (a .packing)) (own-remainder (ranged-second t .high)))
           ),
     )
 
@@ -257,7 +248,7 @@ same-length-2 c = c .before .loop .inv .4
 returns : tie.Need-returns Inv-loop μ-loop
 returns c =
     let l = c .before .loop in
-    let a = c .before .before .before .before .before .before .args in
+    let a = c .before .before .before .before .before .before .before .args in
     let all : l .i - a .reached .point ≡ 2 * a .pairs = omega arith in (
       sym (ap (workedBy (a .section .now) (a .group) (Worked.Kept (a .reached .x) (a .reached .before))) all) ∙ l .inv .9 (a .group .count),
       rw all at (l .inv .10 (a .group .count)),
@@ -297,9 +288,6 @@ fill-pairs-spec =
     slice-write-values-2
     add-presence
     slice-write-presence-2
-    cast-at
-    mul-at
-    add-at
     add-i
     loop-less
     loop-again

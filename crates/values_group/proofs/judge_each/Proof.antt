@@ -13,8 +13,8 @@ use Rattle.values_group.proofs.judge_each.Tie as tie
 
 abbrev Inv-loop : tie.InvT-loop
 Inv-loop section latest earlier width base lowered count at₀ x₀ before₀ done₀ at x before done =
-    (done ≤ count) × (at ≡ at₀ + done * width) × (at ≤ at₀ + done * 31) × (x ≤ mostX) × (before ≤ mostX)
-    × (workedBy section (groupOf at₀ width base lowered count) (Worked.Kept latest earlier) done ≡ Worked.Kept x before)
+    (done ≤ count) × (at .0 ≡ at₀ .0 + done * width) × (at .0 ≤ at₀ .0 + done * 31) × (x ≤ mostX) × (before ≤ mostX)
+    × (workedBy section (groupOf (at₀ .0) width base lowered count) (Worked.Kept latest earlier) done ≡ Worked.Kept x before)
 
 abbrev μ-loop : tie.MeasureT-loop
 μ-loop section latest earlier width base lowered count at₀ x₀ before₀ done₀ at x before done = count - done
@@ -22,24 +22,24 @@ abbrev μ-loop : tie.MeasureT-loop
 -- The next integer, from the number that was read.
 following : (c : tie.After-take Inv-loop μ-loop) →
     let l = c .before .before .loop in
-    let a = c .before .before .before .before .args in
+    let a = c .before .before .before .before .before .args in
     workedBy (a .section .now) (a .group) (Worked.Kept (a .latest) (a .earlier)) (l .done + 1)
-    ≡ judged (l .x) (c .take .result + a .group .base + 2 * l .x) (l .before + a .group .lowered)
+    ≡ judged (l .x) (c .take .result .number + a .group .base + 2 * l .x) (l .before + a .group .lowered)
 following c =
     let l = c .before .before .loop in
-    let a = c .before .before .before .before .args in
-    worked-read (a .section .now) (a .group) (Worked.Kept (a .latest) (a .earlier)) (l .done) (l .x) (l .before) (l .at) (c .take .result)
-    (l .inv .5) (l .inv .1) (c .take .ensures)
+    let a = c .before .before .before .before .before .args in
+    worked-read (a .section .now) (a .group) (Worked.Kept (a .latest) (a .earlier)) (l .done) (l .x) (l .before) (l .at .0) (c .take .result .number)
+    (l .inv .5) (l .inv .1) (c .take .ensures .0)
 
 -- Where the next integer is out of its range, nothing is kept behind the whole group.
 stopped : (c : tie.After-take Inv-loop μ-loop) →
     let l = c .before .before .loop in
-    let a = c .before .before .before .before .args in
-    judged (l .x) (c .take .result + a .group .base + 2 * l .x) (l .before + a .group .lowered) ≡ Worked.Out
+    let a = c .before .before .before .before .before .args in
+    judged (l .x) (c .take .result .number + a .group .base + 2 * l .x) (l .before + a .group .lowered) ≡ Worked.Out
     → Worked.Out ≡ workedBy (a .section .now) (a .group) (Worked.Kept (a .latest) (a .earlier)) (a .group .count)
 stopped c out =
     let l = c .before .before .loop in
-    let a = c .before .before .before .before .args in
+    let a = c .before .before .before .before .before .args in
     let w = Worked.Kept (a .latest) (a .earlier) in
     let left = a .group .count - (l .done + 1) in
     let all : l .done + 1 + left ≡ a .group .count = omega arith in
@@ -47,7 +47,7 @@ stopped c out =
 
 loop-holds : tie.Need-loop-holds Inv-loop μ-loop
 unfolding workedBy
-loop-holds c = (omega arith, omega arith, omega arith, c .before .pre .ofLast, c .before .pre .ofBefore, refl)
+loop-holds c = (omega arith, omega arith, omega arith, c .before .before .pre .ofLast, c .before .before .pre .ofBefore, refl)
 
 take-requires : tie.Need-take-requires Inv-loop μ-loop
 take-requires c κs = search needs
@@ -69,22 +69,16 @@ add-down c = search needs
 
 returns : tie.Need-returns Inv-loop μ-loop
 returns c =
-    let l = c .before .before .before .loop in
-    let g = c .before .before .before .before .before .args .group in
-    stopped (c .before) (judged-low (l .x) (c .before .take .result + g .base + 2 * l .x) (l .before + g .lowered) (omega arith))
+    let l = c .before .before .before .before .loop in
+    let g = c .before .before .before .before .before .before .before .args .group in
+    stopped (c .before .before) (judged-low (l .x) (c .before .before .take .result .number + g .base + 2 * l .x) (l .before + g .lowered) (omega arith))
 
 returns-2 : tie.Need-returns-2 Inv-loop μ-loop
 returns-2 c =
-    let l = c .before .before .before .before .loop in
-    let g = c .before .before .before .before .before .before .args .group in
-    stopped (c .before .before)
-    (judged-high (l .x) (c .before .before .take .result + g .base + 2 * l .x) (l .before + g .lowered) (omega arith) (omega arith))
-
-cast-at : tie.Need-cast-at Inv-loop μ-loop
-cast-at c = search needs
-
-add-at : tie.Need-add-at Inv-loop μ-loop
-add-at c = search needs
+    let l = c .before .before .before .before .before .loop in
+    let g = c .before .before .before .before .before .before .before .before .args .group in
+    stopped (c .before .before .before)
+    (judged-high (l .x) (c .before .before .before .take .result .number + g .base + 2 * l .x) (l .before + g .lowered) (omega arith) (omega arith))
 
 add-done : tie.Need-add-done Inv-loop μ-loop
 add-done c = search needs
@@ -94,21 +88,22 @@ loop-less c = search needs
 
 loop-again : tie.Need-loop-again Inv-loop μ-loop
 loop-again c =
-    let l = c .before .before .before .before .loop in
-    let g = c .before .before .before .before .before .before .args .group in (
+    let t = c .before .before .before .before in
+    let l = t .before .before .loop in
+    let g = t .before .before .before .before .before .args .group in (
       omega arith,
-      place-more (g .from .0) (l .done) (g .width) (l .at) (l .inv .1),
+      t .take .ensures .1 ∙ place-more (g .from .0) (l .done) (g .width) (l .at .0) (l .inv .1),
       omega arith,
       omega arith,
       l .inv .3,
-      following (c .before .before)
-          ∙ judged-kept (l .x) (c .before .before .take .result + g .base + 2 * l .x) (l .before + g .lowered) (omega arith) (omega arith),
+      following t
+          ∙ judged-kept (l .x) (t .take .result .number + g .base + 2 * l .x) (l .before + g .lowered) (omega arith) (omega arith),
     )
 
 returns-3 : tie.Need-returns-3 Inv-loop μ-loop
 returns-3 c =
     let l = c .before .loop in
-    let a = c .before .before .before .args in
+    let a = c .before .before .before .before .args in
     let all : l .done ≡ a .group .count = omega arith in
     sym (l .inv .5) ∙ ap (workedBy (a .section .now) (a .group) (Worked.Kept (a .latest) (a .earlier))) all
 
@@ -127,8 +122,6 @@ judge-each-spec =
     add-down
     returns
     returns-2
-    cast-at
-    add-at
     add-done
     loop-less
     loop-again
