@@ -13,7 +13,7 @@ use doubles::Packing;
 use octets::BitPlace;
 use octets::OctetNumber;
 
-// Writes points that are all present, from `from` up to `to`, whose numbers start at bit `first`: one by one.
+// Writes points that are all present, from `from` up to `to`, whose numbers start at bit `first`: one by one. It answers the place behind them.
 fn fill_each(
     section: &[u8],
     bits: u32,
@@ -22,20 +22,23 @@ fn fill_each(
     presence: &mut [u8],
     from: usize,
     to: usize,
-    first: usize,
-)
-    requires { ⌜ (length (now presence) ≡ length (now values)) × (length (now values) ≤ 16777216) × (first ≤ 2199023255552) ⌝ }
+    first: BitPlace,
+) -> BitPlace
+    requires { ⌜ (length (now presence) ≡ length (now values)) × (length (now values) ≤ 16777216) × (first .0 ≤ 2199023255552) ⌝ }
     requires { ⌜ (from ≤ to) × (to ≤ length (now values)) × (bits ≤ 31) ⌝ }
-    ensures { λ _. ⌜ Written (λ _. 1) (λ i. i) packing (numbersFrom (now (section .entry)) bits first) (to - from) from to (now (values .entry)) (now (values .exit)) (now (presence .entry)) (now (presence .exit)) ⌝ }
+    ensures { λ _. ⌜ Written (λ _. 1) (λ i. i) packing (numbersFrom (now (section .entry)) bits (first .0)) (to - from) from to (now (values .entry)) (now (values .exit)) (now (presence .entry)) (now (presence .exit)) ⌝ }
+    ensures { λ r. ⌜ r .0 ≡ first .0 + (to - from) * bits ⌝ }
 {
     let mut at = first;
     let mut i = from;
     while i < to {
-        values[i] = doubles::rebuild(packing, bits_reader::take(section, BitPlace(at), bits));
+        let taken = bits_reader::take(section, at, bits);
+        values[i] = doubles::rebuild(packing, taken.number);
         presence[i] = 1;
-        at += bits as usize;
+        at = taken.next;
         i += 1;
     }
+    at
 }
 
 // The same for so many pairs of points, where eight octets are left at each of their numbers.
@@ -47,24 +50,26 @@ fn fill_pairs(
     presence: &mut [u8],
     from: usize,
     pairs: usize,
-    first: usize,
-)
-    requires { ⌜ (length (now presence) ≡ length (now values)) × (length (now values) ≤ 16777216) × (first ≤ 1099511627776) ⌝ }
-    requires { ⌜ (from + 2 * pairs ≤ length (now values)) × (bits ≤ 28) × ((first + 2 * pairs * bits) / 8 + 8 ≤ length (now section)) ⌝ }
-    ensures { λ _. ⌜ Written (λ _. 1) (λ i. i) packing (numbersFrom (now (section .entry)) bits first) (2 * pairs) from (from + 2 * pairs) (now (values .entry)) (now (values .exit)) (now (presence .entry)) (now (presence .exit)) ⌝ }
+    first: BitPlace,
+) -> BitPlace
+    requires { ⌜ (length (now presence) ≡ length (now values)) × (length (now values) ≤ 16777216) × (first .0 ≤ 1099511627776) ⌝ }
+    requires { ⌜ (from + 2 * pairs ≤ length (now values)) × (bits ≤ 28) × ((first .0 + 2 * pairs * bits) / 8 + 8 ≤ length (now section)) ⌝ }
+    ensures { λ _. ⌜ Written (λ _. 1) (λ i. i) packing (numbersFrom (now (section .entry)) bits (first .0)) (2 * pairs) from (from + 2 * pairs) (now (values .entry)) (now (values .exit)) (now (presence .entry)) (now (presence .exit)) ⌝ }
+    ensures { λ r. ⌜ r .0 ≡ first .0 + 2 * pairs * bits ⌝ }
 {
     let end = from + 2 * pairs;
     let mut at = first;
     let mut i = from;
     while i < end {
-        let pair = bits_reader::take_pair(section, BitPlace(at), bits);
-        values[i] = doubles::rebuild(packing, pair.first);
+        let taken = bits_reader::take_pair(section, at, bits);
+        values[i] = doubles::rebuild(packing, taken.first);
         presence[i] = 1;
-        values[i + 1] = doubles::rebuild(packing, pair.second);
+        values[i + 1] = doubles::rebuild(packing, taken.second);
         presence[i + 1] = 1;
-        at += 2 * bits as usize;
+        at = taken.next;
         i += 2;
     }
+    at
 }
 
 // Writes points that are all present, from `from` up to `to`, whose numbers start at bit `first`.
@@ -76,29 +81,20 @@ fn fill_present(
     presence: &mut [u8],
     from: usize,
     to: usize,
-    first: usize,
-)
-    requires { ⌜ (length (now presence) ≡ length (now values)) × (length (now values) ≤ 16777216) × (first ≤ 1099511627776) ⌝ }
+    first: BitPlace,
+) -> BitPlace
+    requires { ⌜ (length (now presence) ≡ length (now values)) × (length (now values) ≤ 16777216) × (first .0 ≤ 1099511627776) ⌝ }
     requires { ⌜ (from ≤ to) × (to ≤ length (now values)) × (bits ≤ 31) ⌝ }
-    ensures { λ _. ⌜ Written (λ _. 1) (λ i. i) packing (numbersFrom (now (section .entry)) bits first) (to - from) from to (now (values .entry)) (now (values .exit)) (now (presence .entry)) (now (presence .exit)) ⌝ }
+    ensures { λ _. ⌜ Written (λ _. 1) (λ i. i) packing (numbersFrom (now (section .entry)) bits (first .0)) (to - from) from to (now (values .entry)) (now (values .exit)) (now (presence .entry)) (now (presence .exit)) ⌝ }
+    ensures { λ r. ⌜ r .0 ≡ first .0 + (to - from) * bits ⌝ }
 {
-    let pairs = bits::pairs_in(section.len(), BitPlace(first), bits, to - from);
+    let pairs = bits::pairs_in(section.len(), first, bits, to - from);
     if pairs == 0 {
-        fill_each(section, bits, packing, values, presence, from, to, first);
-    } else {
-        let paired = 2 * pairs;
-        fill_pairs(section, bits, packing, values, presence, from, pairs, first);
-        fill_each(
-            section,
-            bits,
-            packing,
-            values,
-            presence,
-            from + paired,
-            to,
-            first + paired * bits as usize,
-        );
+        return fill_each(section, bits, packing, values, presence, from, to, first);
     }
+    let next = fill_pairs(section, bits, packing, values, presence, from, pairs, first);
+    let rest = from + 2 * pairs;
+    fill_each(section, bits, packing, values, presence, rest, to, next)
 }
 
 // Fills the runs for a field whose points are all present.
@@ -115,7 +111,7 @@ pub fn fill_all(
 {
     let first = octets::first_bit(OctetNumber(6));
     let n = values.len();
-    fill_present(section, bits, packing, values, presence, 0, n, first.0);
+    fill_present(section, bits, packing, values, presence, 0, n, first);
 }
 
 // Fills the runs for a field with a bitmap: by turns a stretch of points that are present, and one of points that are missing.
@@ -132,13 +128,11 @@ pub fn fill_marked(
     ensures { λ _. ⌜ now (values .exit) ≡ row (doubleAt packing (simpleInteger (now (section .entry)) bits) (bitAt (now (bitmap .entry))) (onesBefore (now (bitmap .entry)))) (length (now (values .entry))) ⌝ }
     ensures { λ _. ⌜ now (presence .exit) ≡ row (bitAt (now (bitmap .entry))) (length (now (values .entry))) ⌝ }
 {
-    let first = octets::first_bit(OctetNumber(6));
-    let mut at = first.0;
+    let mut at = octets::first_bit(OctetNumber(6));
     let mut i: usize = 0;
     while i < values.len() {
         let until = values_points::present_until(bitmap, i, values.len());
-        fill_present(section, bits, packing, values, presence, i, until, at);
-        at += (until - i) * bits as usize;
+        at = fill_present(section, bits, packing, values, presence, i, until, at);
         i = values_points::clear_missing(bitmap, values, presence, until);
     }
 }

@@ -25,7 +25,7 @@ returns c =
     let b = c .before .before .before .before .before .before .before in
     let a = b .before .before .before .before .args in
     written-rows (λ _. 1) (λ i. i) (λ i. refl) (a .packing) (simpleInteger (a .section .now) (a .bits)) refl
-    (written-past (rw (b .first-bit .ensures) at (c .before .before .before .before .fill-present .ensures))) refl (omega arith)
+    (written-past (rw (b .first-bit .ensures) at (c .before .before .before .before .fill-present .ensures .0))) refl (omega arith)
 
 pub fill-all-spec : {M : Type 1} → statement M
 fill-all-spec =

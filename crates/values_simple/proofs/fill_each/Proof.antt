@@ -11,16 +11,16 @@ use Rattle.values_simple.proofs.fill_each.Statement.{statement}
 use Rattle.values_simple.proofs.fill_each.Tie as tie
 
 abbrev Inv-loop : tie.InvT-loop
-Inv-loop section bits packing values₀ presence₀ from to first at₀ i₀ values presence at i =
+Inv-loop section bits packing values₀ presence₀ from to at₀ i₀ values presence at i =
     (i ≤ to)
     × (length values ≡ length values₀)
     × (length presence ≡ length presence₀)
-    × (at ≡ first + (i - from) * bits)
-    × (at ≤ first + i * 31)
-    × WrittenAll packing (numbersFrom section bits first) from i values₀ values presence₀ presence
+    × (at .0 ≡ at₀ .0 + (i - from) * bits)
+    × (at .0 ≤ at₀ .0 + i * 31)
+    × WrittenAll packing (numbersFrom section bits (at₀ .0)) from i values₀ values presence₀ presence
 
 abbrev μ-loop : tie.MeasureT-loop
-μ-loop section bits packing values₀ presence₀ from to first at₀ i₀ values presence at i = to - i
+μ-loop section bits packing values₀ presence₀ from to at₀ i₀ values presence at i = to - i
 
 loop-holds : tie.Need-loop-holds Inv-loop μ-loop
 loop-holds c =
@@ -31,7 +31,7 @@ loop-holds c =
       refl,
       rw none (omega arith),
       omega arith,
-      all-none (a .packing) (numbersFrom (a .section .now) (a .bits) (a .first)) (a .from) (a .values .now) (a .presence .now) (omega arith),
+      all-none (a .packing) (numbersFrom (a .section .now) (a .bits) (a .first .0)) (a .from) (a .values .now) (a .presence .now) (omega arith),
     )
 
 take-requires : tie.Need-take-requires Inv-loop μ-loop
@@ -49,9 +49,6 @@ slice-write-values c = search needs
 slice-write-presence : tie.Need-slice-write-presence Inv-loop μ-loop
 slice-write-presence c = search needs
 
-add-at : tie.Need-add-at Inv-loop μ-loop
-add-at c = search needs
-
 add-i : tie.Need-add-i Inv-loop μ-loop
 add-i c = search needs
 
@@ -60,15 +57,16 @@ loop-less c = search needs
 
 loop-again : tie.Need-loop-again Inv-loop μ-loop
 loop-again c =
-    let l = c .before .before .before .loop in
-    let a = c .before .before .before .before .before .before .before .args in (
+    let t = c .before .before in
+    let l = t .before .before .loop in
+    let a = t .before .before .before .before .before .before .args in (
       omega arith,
       length-set (l .values) (l .i) _ ∙ l .inv .1,
       length-set (l .presence) (l .i) _ ∙ l .inv .2,
-      next-place (a .first) (a .from) (l .i) (a .bits) (l .at) (l .inv .5 .onward) (l .inv .3),
+      t .take .ensures .1 ∙ next-place (a .first .0) (a .from) (l .i) (a .bits) (l .at .0) (l .inv .5 .onward) (l .inv .3),
       omega arith,
-      all-more (a .packing) (numbersFrom (a .section .now) (a .bits) (a .first)) (l .inv .5) (omega arith)
-          (c .before .take .ensures ∙ number-here (a .section .now) (a .bits) (a .first) (l .at) (l .i - a .from) (l .inv .3)) (c .rebuild .ensures),
+      all-more (a .packing) (numbersFrom (a .section .now) (a .bits) (a .first .0)) (l .inv .5) (omega arith)
+          (t .take .ensures .0 ∙ number-here (a .section .now) (a .bits) (a .first .0) (l .at .0) (l .i - a .from) (l .inv .3)) (c .before .rebuild .ensures),
     )
 
 same-length : tie.Need-same-length Inv-loop μ-loop
@@ -81,7 +79,7 @@ returns : tie.Need-returns Inv-loop μ-loop
 returns c =
     let l = c .before .loop in
     let all : l .i ≡ c .before .before .before .before .before .args .to = omega arith in
-    rw all at (l .inv .5)
+    (rw all at (l .inv .5), rw all at (l .inv .3))
 
 pub fill-each-spec : {M : Type 1} → statement M
 fill-each-spec =
@@ -95,7 +93,6 @@ fill-each-spec =
     mul-values
     slice-write-values
     slice-write-presence
-    add-at
     add-i
     loop-less
     loop-again

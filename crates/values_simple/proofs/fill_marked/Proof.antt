@@ -1,6 +1,6 @@
 -- `values_simple::fill_marked` meets its contract. The invariant: the first `i` points are written into both runs, and `at` is the place of the number
 -- behind those of the points present among them.
-use mathlib.Core.Path.{_≡_, refl}
+use mathlib.Core.Path.{_≡_, refl, _∙_}
 use Prim.Native.Nat.{_+_, _-_, _*_, _≤_}
 use native.Mathlib.Omega.{arith}
 use borrow.Author.Needs.{needs}
@@ -22,8 +22,8 @@ Inv-loop section bitmap bits packing values₀ presence₀ at₀ i₀ values pre
     (i ≤ length values₀)
     × (length values ≡ length values₀)
     × (length presence ≡ length presence₀)
-    × (at ≡ firstBit 6 + onesBefore bitmap i * bits)
-    × (at ≤ 40 + i * 31)
+    × (at .0 ≡ firstBit 6 + onesBefore bitmap i * bits)
+    × (at .0 ≤ 40 + i * 31)
     × WrittenPast (bitAt bitmap) (onesBefore bitmap) packing (simpleInteger section bits) (onesBefore bitmap i) 0 i values₀ values presence₀ presence
 
 abbrev μ-loop : tie.MeasureT-loop
@@ -51,9 +51,6 @@ present-until-requires c κs = search needs
 fill-present-requires : tie.Need-fill-present-requires Inv-loop μ-loop
 fill-present-requires c κs = search needs
 
-sub-at : tie.Need-sub-at Inv-loop μ-loop
-sub-at c = omega (arith, c .before .before .before .before .before .before .before .present-until .ensures .onward)
-
 -- The bits of the numbers of a stretch.
 stretch-bits : (c : tie.After-present-until Inv-loop μ-loop) →
     let a = c .before .before .before .before .before .before .before .before .args in
@@ -62,16 +59,6 @@ stretch-bits : (c : tie.After-present-until Inv-loop μ-loop) →
 stretch-bits c =
     let a = c .before .before .before .before .before .before .before .before .args in
     bits-in-all (c .present-until .result - c .before .before .loop .i) (a .bits) 31 (omega arith)
-
-mul-at : tie.Need-mul-at Inv-loop μ-loop
-mul-at c =
-    let u = c .before .before .before .before .before .before .before in
-    omega (arith, u .present-until .ensures .within, stretch-bits u)
-
-add-at : tie.Need-add-at Inv-loop μ-loop
-add-at c =
-    let u = c .before .before .before .before .before .before .before in
-    omega (arith, u .present-until .ensures .within, u .present-until .ensures .onward, stretch-bits u)
 
 clear-missing-requires : tie.Need-clear-missing-requires Inv-loop μ-loop
 clear-missing-requires c κs = search needs
@@ -92,14 +79,14 @@ loop-again c =
     let stretch = u .present-until .ensures in
     let cleared = c .before .before .before .before .clear-missing .ensures in
     let ones = onesBefore (a .bitmap .now) in
-    let written = c .before .before .before .before .before .before .before .before .before .before .before .fill-present .ensures in
-    let same = numbers-later (a .section .now) (a .bits) (firstBit 6) (l .at) (ones (l .i)) (l .inv .3) in
-    let turn = marked-turn (a .bitmap .now) (a .packing) (simpleInteger (a .section .now) (a .bits)) (numbersFrom (a .section .now) (a .bits) (l .at)) (l .inv .5) written (stretch .present) same cleared in (
+    let filled = c .before .before .before .before .before .before .before .before .before .before .before .fill-present in
+    let same = numbers-later (a .section .now) (a .bits) (firstBit 6) (l .at .0) (ones (l .i)) (l .inv .3) in
+    let turn = marked-turn (a .bitmap .now) (a .packing) (simpleInteger (a .section .now) (a .bits)) (numbersFrom (a .section .now) (a .bits) (l .at .0)) (l .inv .5) (filled .ensures .0) (stretch .present) same cleared in (
       omega (arith, cleared .within),
       omega arith,
       omega arith,
-      place-behind (firstBit 6) (ones (l .i)) (until - l .i) (ones next) (a .bits) (l .at) (l .inv .3) (turn .0),
-      omega (arith, stretch .onward, cleared .onward, stretch-bits u),
+      filled .ensures .1 ∙ place-behind (firstBit 6) (ones (l .i)) (until - l .i) (ones next) (a .bits) (l .at .0) (l .inv .3) (turn .0),
+      omega (arith, filled .ensures .1, stretch .onward, cleared .onward, stretch-bits u),
       turn .1,
     )
 
@@ -126,9 +113,6 @@ fill-marked-spec =
     loop-holds
     present-until-requires
     fill-present-requires
-    sub-at
-    mul-at
-    add-at
     clear-missing-requires
     loop-less
     loop-again

@@ -13,18 +13,18 @@ use Rattle.values_simple.proofs.fill_pairs.Statement.{statement}
 use Rattle.values_simple.proofs.fill_pairs.Tie as tie
 
 abbrev Inv-loop : tie.InvT-loop
-Inv-loop section bits packing values₀ presence₀ from pairs first end at₀ i₀ values presence at i =
+Inv-loop section bits packing values₀ presence₀ from pairs end at₀ i₀ values presence at i =
     (from ≤ i)
     × (i ≤ from + 2 * pairs)
     × ((i - from) % 2 ≡ 0)
     × (length values ≡ length values₀)
     × (length presence ≡ length presence₀)
-    × (at ≡ first + (i - from) * bits)
-    × (at ≤ first + i * 28)
-    × WrittenAll packing (numbersFrom section bits first) from i values₀ values presence₀ presence
+    × (at .0 ≡ at₀ .0 + (i - from) * bits)
+    × (at .0 ≤ at₀ .0 + i * 28)
+    × WrittenAll packing (numbersFrom section bits (at₀ .0)) from i values₀ values presence₀ presence
 
 abbrev μ-loop : tie.MeasureT-loop
-μ-loop section bits packing values₀ presence₀ from pairs first end at₀ i₀ values presence at i = from + 2 * pairs - i
+μ-loop section bits packing values₀ presence₀ from pairs end at₀ i₀ values presence at i = from + 2 * pairs - i
 
 mul-end : tie.Need-mul-end Inv-loop μ-loop
 mul-end c = search needs
@@ -43,14 +43,14 @@ loop-holds c =
       refl,
       rw none (omega arith),
       omega arith,
-      all-none (a .packing) (numbersFrom (a .section .now) (a .bits) (a .first)) (a .from) (a .values .now) (a .presence .now) (omega arith),
+      all-none (a .packing) (numbersFrom (a .section .now) (a .bits) (a .first .0)) (a .from) (a .values .now) (a .presence .now) (omega arith),
     )
 
 take-pair-requires : tie.Need-take-pair-requires Inv-loop μ-loop
 take-pair-requires c κs =
     let a = c .before .before .before .before .before .args in
     let few : c .before .loop .i - a .from ≤ 2 * a .pairs = omega arith in
-    (omega (arith, mul-le-mul-right (a .bits) few), omega arith)
+    (omega (arith, mul-le-mul-right (a .bits) few), omega arith, omega arith)
 
 rebuild-requires : tie.Need-rebuild-requires Inv-loop μ-loop
 rebuild-requires c κs = search needs
@@ -82,12 +82,6 @@ add-presence c = search needs
 slice-write-presence-2 : tie.Need-slice-write-presence-2 Inv-loop μ-loop
 slice-write-presence-2 c = let l = c .before .before .before .before .loop in omega (arith, length-set (l .presence) (l .i) 1)
 
-mul-at : tie.Need-mul-at Inv-loop μ-loop
-mul-at c = search needs
-
-add-at : tie.Need-add-at Inv-loop μ-loop
-add-at c = search needs
-
 add-i : tie.Need-add-i Inv-loop μ-loop
 add-i c = search needs
 
@@ -96,15 +90,16 @@ loop-less c = search needs
 
 loop-again : tie.Need-loop-again Inv-loop μ-loop
 loop-again c =
-    let l = c .before .before .before .before .loop in
-    let a = c .before .before .before .before .before .before .before .before .args in
-    let pair = c .before .before .take-pair .ensures in
-    let numbers = numbersFrom (a .section .now) (a .bits) (a .first) in
-    let second-place = next-place (a .first) (a .from) (l .i) (a .bits) (l .at) (l .inv .0) (l .inv .5) in
-    let first-number = pair .0 ∙ number-here (a .section .now) (a .bits) (a .first) (l .at) (l .i - a .from) (l .inv .5) in
-    let second-number = pair .1 ∙ number-here (a .section .now) (a .bits) (a .first) (l .at + a .bits) (l .i + 1 - a .from) second-place in
-    let one = all-more (a .packing) numbers (l .inv .7) (omega arith) first-number (c .before .rebuild .ensures) in
-    let both = all-more (a .packing) numbers one (omega arith) second-number (c .rebuild2 .ensures) in
+    let t = c .before .before .before in
+    let l = t .before .before .loop in
+    let a = t .before .before .before .before .before .before .args in
+    let pair = t .take-pair .ensures in
+    let numbers = numbersFrom (a .section .now) (a .bits) (a .first .0) in
+    let second-place = next-place (a .first .0) (a .from) (l .i) (a .bits) (l .at .0) (l .inv .0) (l .inv .5) in
+    let first-number = pair .0 ∙ number-here (a .section .now) (a .bits) (a .first .0) (l .at .0) (l .i - a .from) (l .inv .5) in
+    let second-number = pair .1 ∙ number-here (a .section .now) (a .bits) (a .first .0) (l .at .0 + a .bits) (l .i + 1 - a .from) second-place in
+    let one = all-more (a .packing) numbers (l .inv .7) (omega arith) first-number (c .before .before .rebuild .ensures) in
+    let both = all-more (a .packing) numbers one (omega arith) second-number (c .before .rebuild2 .ensures) in
     let lengths = all-lengths (a .packing) numbers both in
     let next : l .i + 2 ≡ l .i + 1 + 1 = omega arith in (
       omega arith,
@@ -112,7 +107,7 @@ loop-again c =
       omega arith,
       lengths .0,
       lengths .1,
-      place-behind (a .first) (l .i - a .from) 2 (l .i + 2 - a .from) (a .bits) (l .at) (l .inv .5) (omega arith),
+      pair .2 ∙ place-behind (a .first .0) (l .i - a .from) 2 (l .i + 2 - a .from) (a .bits) (l .at .0) (l .inv .5) (omega arith),
       omega arith,
       rw next both,
     )
@@ -129,7 +124,7 @@ returns c =
     let a = c .before .before .before .before .before .args in
     let all : l .i ≡ a .from + 2 * a .pairs = omega arith in
     let count : a .from + 2 * a .pairs - a .from ≡ 2 * a .pairs = omega arith in
-    rw (all, count) at (l .inv .7)
+    (rw (all, count) at (l .inv .7), rw (all, count) at (l .inv .5))
 
 pub fill-pairs-spec : {M : Type 1} → statement M
 fill-pairs-spec =
@@ -151,8 +146,6 @@ fill-pairs-spec =
     slice-write-values-2
     add-presence
     slice-write-presence-2
-    mul-at
-    add-at
     add-i
     loop-less
     loop-again
