@@ -1,5 +1,5 @@
 -- Points that are missing: how they are cleared, one by one, and that to clear them is to write no integer. What is cleared leaves nothing open.
-use mathlib.Core.Path.{_≡_, refl, sym, ap, _∙_}
+use mathlib.Core.Path.{_≡_, refl, sym, ap, ap₂, _∙_}
 use mathlib.Core.Bool.{false}
 use mathlib.Core.List.{List}
 use Prim.Native.Nat.{ℕ, zero, suc, _+_, _-_, _≤_, _<_}
@@ -18,25 +18,17 @@ use Rattle.doubles.specs.declared.Packing.{Packing}
 use Rattle.values_points.specs.Points.{pointValue, doubleAt}
 use Rattle.section_6.specs.Presence.{onesBefore}
 use Rattle.section_6.proofs.Laws.{ones-more}
-use Rattle.values_points.specs.Written.{Cleared}
-use Rattle.values_points.proofs.Laws.{neither-less, WrittenPast, written-field}
+use Rattle.values_points.specs.Written.{Runs, runs, markedBy, WrittenPast, Missing, Cleared}
+use Rattle.values_points.proofs.Laws.{neither-less, written-field}
 
 -- The literal 0.0 is +0.
 pub zero-literal : ofBits binary64 0 ≡ fin false 0 (pos 0)
 unfolding ofBits
 zero-literal = refl
 
--- The points from `point` up to `next` are missing, and so written.
-pub record Missing (bitmap : List ℕ) (point next : ℕ) (values written : List Float) (presence marked : List ℕ) : Type 0 where
-  pub onward : point ≤ next
-  pub within : next ≤ length values
-  pub missing : (i : ℕ) → point ≤ i → i < next → bitAt bitmap i ≡ 0
-  pub doubles : written ≡ filled (λ _. fin false 0 (pos 0)) point (next - point) values
-  pub marks : marked ≡ filled (λ _. 0) point (next - point) presence
-
-module _ (bitmap : List ℕ) (point : ℕ) (values : List Float) (presence : List ℕ) where
+module _ (bitmap : List ℕ) (point : ℕ) (a : Runs) where
   -- Before the first point is looked at, nothing is written.
-  pub missing-none : point ≤ length values → Missing bitmap point point values values presence presence
+  pub missing-none : point ≤ length (a .doubles) → Missing bitmap point point a a
   unfolding filled
   missing-none h =
       let none : point - point ≡ 0 = omega arith in
@@ -44,44 +36,38 @@ module _ (bitmap : List ℕ) (point : ℕ) (values : List Float) (presence : Lis
         onward = omega arith;
         within = h;
         missing = λ i l m. absurd (omega arith);
-        doubles = sym (ap (λ (n : ℕ). filled (λ _. fin false 0 (pos 0)) point n values) none);
-        marks = sym (ap (λ (n : ℕ). filled (λ _. 0) point n presence) none);
+        doubles = sym (ap (λ (n : ℕ). filled (λ _. fin false 0 (pos 0)) point n (a .doubles)) none);
+        marks = sym (ap (λ (n : ℕ). filled (λ _. 0) point n (a .marks)) none);
       }
 
-  module _ {i : ℕ} {written : List Float} {marked : List ℕ} (m : Missing bitmap point i values written presence marked) where
-    -- A point that is missing is written, and the next one is looked at.
-    pub missing-more : i < length values → bitAt bitmap i ≡ 0 → Missing bitmap point (i + 1) values (set written i (fin false 0 (pos 0))) presence (set marked i 0)
-    missing-more h e =
-        record {
-          onward = omega (arith, m .onward);
-          within = omega arith;
-          missing = earlier;
-          doubles = filled-next (λ _. fin false 0 (pos 0)) point i values written (m .onward) (m .doubles) refl;
-          marks = filled-next (λ _. 0) point i presence marked (m .onward) (m .marks) refl;
-        }
-      where
-        earlier : (j : ℕ) → point ≤ j → j < i + 1 → bitAt bitmap j ≡ 0
-        earlier j l k =
-            split (ltb j i) (λ before. m .missing j l (ltb-true j i before))
-            (λ last. let same : j ≡ i = omega (arith, ltb-false j i last) in ap (bitAt bitmap) same ∙ e)
-
-    -- Where the next point is present, or at the end, all is written that is to be.
-    pub missing-cleared : (i < length values → bitAt bitmap i ≡ 1) → Cleared bitmap point i values written presence marked
-    missing-cleared present =
-        record { onward = m .onward; within = m .within; missing = m .missing; present = present; doubles = m .doubles; marks = m .marks }
+  -- A point that is missing is written, and the next one is looked at.
+  pub missing-more : {i : ℕ} {b : Runs} → Missing bitmap point i a b → i < length (a .doubles) → bitAt bitmap i ≡ 0 →
+      Missing bitmap point (i + 1) a (runs (set (b .doubles) i (fin false 0 (pos 0))) (set (b .marks) i 0))
+  missing-more {i} {b} m h e =
+      record {
+        onward = omega (arith, m .onward);
+        within = omega arith;
+        missing = earlier;
+        doubles = filled-next (λ _. fin false 0 (pos 0)) point i (a .doubles) (b .doubles) (m .onward) (m .doubles) refl;
+        marks = filled-next (λ _. 0) point i (a .marks) (b .marks) (m .onward) (m .marks) refl;
+      }
+    where
+      earlier : (j : ℕ) → point ≤ j → j < i + 1 → bitAt bitmap j ≡ 0
+      earlier j l k =
+          split (ltb j i) (λ before. m .missing j l (ltb-true j i before))
+          (λ last. let same : j ≡ i = omega (arith, ltb-false j i last) in ap (bitAt bitmap) same ∙ e)
 
 -- Any two outcomes of clearing are the same: where one stops before the end a point is present, which the other has not passed.
-pub cleared-determined : {bitmap : List ℕ} {point next next' : ℕ} {values written written' : List Float} {presence marked marked' : List ℕ} →
-    Cleared bitmap point next values written presence marked → Cleared bitmap point next' values written' presence marked' →
-    (next ≡ next') × (written ≡ written') × (marked ≡ marked')
-cleared-determined {bitmap} {point} {next} {next'} {values} {written} {written'} {presence} {marked} {marked'} c d =
+pub cleared-determined : {bitmap : List ℕ} {point next next' : ℕ} {a b b' : Runs} →
+    Cleared bitmap point next a b → Cleared bitmap point next' a b' → (next ≡ next') × (b ≡ b')
+cleared-determined {bitmap} {point} {next} {next'} {a} {b} {b'} c d =
     let same : next ≡ next' =
-    neither-less next next' (λ less. omega (arith, d .missing next (c .onward) less, c .present (omega (arith, d .within))))
-    (λ less. omega (arith, c .missing next' (d .onward) less, d .present (omega (arith, c .within)))) in (
-      same,
-      c .doubles ∙ ap (λ (n : ℕ). filled (λ _. fin false 0 (pos 0)) point (n - point) values) same ∙ sym (d .doubles),
-      c .marks ∙ ap (λ (n : ℕ). filled (λ _. 0) point (n - point) presence) same ∙ sym (d .marks),
-    )
+    neither-less next next' (λ less. omega (arith, d .past .missing next (c .past .onward) less, c .present (omega (arith, d .past .within))))
+    (λ less. omega (arith, c .past .missing next' (d .past .onward) less, d .present (omega (arith, c .past .within)))) in
+    let doubles : b .doubles ≡ b' .doubles =
+    c .past .doubles ∙ ap (λ (n : ℕ). filled (λ _. fin false 0 (pos 0)) point (n - point) (a .doubles)) same ∙ sym (d .past .doubles) in
+    let marks : b .marks ≡ b' .marks = c .past .marks ∙ ap (λ (n : ℕ). filled (λ _. 0) point (n - point) (a .marks)) same ∙ sym (d .past .marks) in
+    (same, ap₂ runs doubles marks)
 
 -- Missing points add nothing to the count of those present.
 ones-missing : (bitmap : List ℕ) (point n : ℕ) → ((i : ℕ) → point ≤ i → i < point + n → bitAt bitmap i ≡ 0) → onesBefore bitmap (point + n) ≡ onesBefore bitmap point
@@ -93,20 +79,23 @@ ones-missing bitmap point (suc n) h =
     ∙ omega (arith, ones-missing bitmap point n (λ i l m. h i l (omega arith)), h (point + n) (omega arith) (omega arith))
 
 -- To clear missing points is to write no integer.
-pub cleared-past : {bitmap : List ℕ} (p : Packing) (x : ℕ → ℕ) {point next : ℕ} {values written : List Float} {presence marked : List ℕ} → Cleared bitmap point next values written presence marked →
-    WrittenPast (bitAt bitmap) (onesBefore bitmap) p x 0 point next values written presence marked
-cleared-past {bitmap} p x {point} {next} {values} {written} {presence} {marked} c =
+pub cleared-past : {bitmap : List ℕ} (p : Packing) (x : ℕ → ℕ) {point next : ℕ} {a b : Runs} → Cleared bitmap point next a b →
+    WrittenPast (markedBy bitmap) p x 0 point next a b
+cleared-past {bitmap} p x {point} {next} {a} {b} cleared =
     record {
       onward = c .onward;
       within = c .within;
       used = sym (ap (onesBefore bitmap) whole) ∙ ones-missing bitmap point (next - point) missing ∙ sym (add-zero (onesBefore bitmap point));
       doubles =
           c .doubles
-          ∙ filled-same (λ _. fin false 0 (pos 0)) (doubleAt p x (bitAt bitmap) (λ i. onesBefore bitmap i - onesBefore bitmap point)) point (next - point) values
+          ∙ filled-same (λ _. fin false 0 (pos 0)) (doubleAt p x (bitAt bitmap) (λ i. onesBefore bitmap i - onesBefore bitmap point)) point (next - point) (a .doubles)
           (λ i l m. sym (ap (λ (mark : ℕ). pointValue p mark (x (onesBefore bitmap i - onesBefore bitmap point))) (missing i l m)));
-      marks = c .marks ∙ filled-same (λ _. 0) (bitAt bitmap) point (next - point) presence (λ i l m. sym (missing i l m));
+      marks = c .marks ∙ filled-same (λ _. 0) (bitAt bitmap) point (next - point) (a .marks) (λ i l m. sym (missing i l m));
     }
   where
+    c : Missing bitmap point next a b
+    c = cleared .past
+
     whole : point + (next - point) ≡ next
     whole = omega (arith, c .onward)
 
@@ -114,24 +103,23 @@ cleared-past {bitmap} p x {point} {next} {values} {written} {presence} {marked} 
     missing i l m = c .missing i l (omega (arith, whole))
 
 -- Missing points behind those that are written already: both runs are filled up to the next one.
-pub cleared-filled : {bitmap : List ℕ} (p : Packing) (x : ℕ → ℕ) (values : List Float) (presence : List ℕ) {point next : ℕ} {written after : List Float} {marked marked' : List ℕ} →
-    Cleared bitmap point next written after marked marked' →
-    written ≡ filled (doubleAt p x (bitAt bitmap) (onesBefore bitmap)) 0 point values → marked ≡ filled (bitAt bitmap) 0 point presence →
-    (after ≡ filled (doubleAt p x (bitAt bitmap) (onesBefore bitmap)) 0 next values) × (marked' ≡ filled (bitAt bitmap) 0 next presence)
-cleared-filled {bitmap} p x values presence {point} {next} {written} {after} {marked} {marked'} c doubles marks =
+pub cleared-filled : {bitmap : List ℕ} (p : Packing) (x : ℕ → ℕ) (values : List Float) (presence : List ℕ) {point next : ℕ} {a b : Runs} →
+    Cleared bitmap point next a b →
+    a .doubles ≡ filled (doubleAt p x (bitAt bitmap) (onesBefore bitmap)) 0 point values → a .marks ≡ filled (bitAt bitmap) 0 point presence →
+    (b .doubles ≡ filled (doubleAt p x (bitAt bitmap) (onesBefore bitmap)) 0 next values) × (b .marks ≡ filled (bitAt bitmap) 0 next presence)
+cleared-filled {bitmap} p x values presence {point} {next} {a} {b} c doubles marks =
     let w = cleared-past p x c in
     let double : ℕ → Float = doubleAt p x (bitAt bitmap) (onesBefore bitmap) in
-    let field : after ≡ filled double point (next - point) written = written-field (bitAt bitmap) (onesBefore bitmap) (ones-more bitmap) p x x w (λ k none. absurd (omega arith)) in (
-      filled-further double values written after (c .onward) doubles field,
-      filled-further (bitAt bitmap) presence marked marked' (c .onward) marks (w .marks),
+    let field : b .doubles ≡ filled double point (next - point) (a .doubles) = written-field (markedBy bitmap) (ones-more bitmap) p x x w (λ k none. absurd (omega arith)) in (
+      filled-further double values (a .doubles) (b .doubles) (w .onward) doubles field,
+      filled-further (bitAt bitmap) presence (a .marks) (b .marks) (w .onward) marks (w .marks),
     )
 
 -- Where the first point is missing, it is passed.
-pub cleared-further : {bitmap : List ℕ} {point next : ℕ} {values written : List Float} {presence marked : List ℕ} → Cleared bitmap point next values written presence marked →
-    point < length values → bitAt bitmap point ≡ 0 → point < next
-cleared-further {bitmap} {point} {next} {values} c here missing =
+pub cleared-further : {bitmap : List ℕ} {point next : ℕ} {a b : Runs} → Cleared bitmap point next a b → point < length (a .doubles) → bitAt bitmap point ≡ 0 → point < next
+cleared-further {bitmap} {point} {next} c here missing =
     split (ltb point next) (λ further. ltb-true point next further)
     (λ not.
-    let same : next ≡ point = omega (arith, c .onward, ltb-false point next not) in
+    let same : next ≡ point = omega (arith, c .past .onward, ltb-false point next not) in
     let present : bitAt bitmap next ≡ 1 = c .present (omega arith) in
     absurd (omega (arith, ap (bitAt bitmap) same)))

@@ -1,5 +1,5 @@
 -- What is written to the points of a field: each gets its double and whether it is present. Integers go to the points that are present, in order.
-use Prim.Native.Nat.{ℕ, _+_, _-_, _/_, _%_, _^_, _≤_, _<_}
+use Prim.Native.Nat.{ℕ, _+_, _-_, _*_, _/_, _%_, _^_, _≤_, _<_}
 use mathlib.Core.Path.{_≡_}
 use mathlib.Core.Bool.{Bool, false, _&&_}
 use lib.Dec.{eqb, leb}
@@ -7,31 +7,78 @@ use mathlib.Core.List.{List}
 use lib.IntN.{pos}
 use lib.ListN.{length}
 use lib.Ieee.{Float, fin}
+use denote.Ref.{RefT, now}
+use denote.Triple.Both.{Both}
 use Rattle.octets.specs.Numbers.{numberAt}
 use Rattle.laws_rows.specs.Rows.{filled}
 use Rattle.bits.specs.Bits.{bitAt}
 use Rattle.doubles.specs.declared.Packing.{Packing}
+use Rattle.section_6.specs.Presence.{onesBefore}
 use Rattle.values_points.specs.Points.{doubleAt}
 
--- The points from `point` up to `next` are written, and no other: `count` integers went to those of them that are present. `mark i` says whether
--- point i is present, and `rank i` how many are before it.
-pub record Written (mark rank : ℕ → ℕ) (p : Packing) (x : ℕ → ℕ) (count point next : ℕ) (values written : List Float) (presence marked : List ℕ) : Type 0 where
-  pub onward : point ≤ next
-  pub within : next ≤ length values
-  pub used : rank next ≡ rank point + count
-  -- and no shorter stretch would do
-  pub least : (i : ℕ) → point ≤ i → i < next → rank i < rank point + count
-  pub doubles : written ≡ filled (doubleAt p x mark (λ i. rank i - rank point)) point (next - point) values
-  pub marks : marked ≡ filled mark point (next - point) presence
+-- Which points are present: `mark i` is 1 where point i is and 0 where it is missing, and `rank i` is how many before it are present.
+pub record Marks : Type 0 where
+  pub mark : ℕ → ℕ
+  pub rank : ℕ → ℕ
 
--- The points from `point` up to `next` are missing, and so written; the next one is present, if it is not the end.
-pub record Cleared (bitmap : List ℕ) (point next : ℕ) (values written : List Float) (presence marked : List ℕ) : Type 0 where
+-- Every point is present.
+abbrev pub everyPoint : Marks
+everyPoint = record { mark = λ _. 1; rank = λ i. i }
+
+-- The points are present that have a 1 in a bitmap.
+abbrev pub markedBy : List ℕ → Marks
+markedBy bitmap = record { mark = bitAt bitmap; rank = onesBefore bitmap }
+
+-- The two runs that are lent for the points of a field: their doubles, and whether each is present.
+pub record Runs : Type 0 where
+  pub doubles : List Float
+  pub marks : List ℕ
+
+abbrev pub runs : List Float → List ℕ → Runs
+runs doubles marks = record { doubles = doubles; marks = marks }
+
+-- The two runs of a contract as they were lent, and as they are left.
+module _ (values : Both (RefT (List Float)) (RefT (List Float))) (presence : Both (RefT (List ℕ)) (RefT (List ℕ))) where
+  abbrev pub lent : Runs
+  lent = runs (now (values .entry)) (now (presence .entry))
+
+  abbrev pub left : Runs
+  left = runs (now (values .exit)) (now (presence .exit))
+
+-- Both runs have one length, of at most 16,777,216 elements.
+abbrev pub Room : List Float → List ℕ → Type 0
+Room values presence = (length presence ≡ length values) × (length values ≤ 16777216)
+
+-- So they have, and a bitmap has a bit for each element.
+abbrev pub MarkedRoom : List ℕ → List Float → List ℕ → Type 0
+MarkedRoom bitmap values presence = (length presence ≡ length values) × (length values ≤ 16777216) × (length values ≤ 8 * length bitmap)
+
+-- The points from `point` up to `next` are written, and no other: `count` integers went to those of them that are present. Missing points behind
+-- the last integer may be among them.
+pub record WrittenPast (m : Marks) (p : Packing) (x : ℕ → ℕ) (count point next : ℕ) (before after : Runs) : Type 0 where
   pub onward : point ≤ next
-  pub within : next ≤ length values
+  pub within : next ≤ length (before .doubles)
+  pub used : m .rank next ≡ m .rank point + count
+  pub doubles : after .doubles ≡ filled (doubleAt p x (m .mark) (λ i. m .rank i - m .rank point)) point (next - point) (before .doubles)
+  pub marks : after .marks ≡ filled (m .mark) point (next - point) (before .marks)
+
+-- They are so written, and the last of them has the last integer: no shorter stretch would do.
+pub record Written (m : Marks) (p : Packing) (x : ℕ → ℕ) (count point next : ℕ) (before after : Runs) : Type 0 where
+  pub past : WrittenPast m p x count point next before after
+  pub least : (i : ℕ) → point ≤ i → i < next → m .rank i < m .rank point + count
+
+-- The points from `point` up to `next` are missing, and so written.
+pub record Missing (bitmap : List ℕ) (point next : ℕ) (before after : Runs) : Type 0 where
+  pub onward : point ≤ next
+  pub within : next ≤ length (before .doubles)
   pub missing : (i : ℕ) → point ≤ i → i < next → bitAt bitmap i ≡ 0
-  pub present : next < length values → bitAt bitmap next ≡ 1
-  pub doubles : written ≡ filled (λ _. fin false 0 (pos 0)) point (next - point) values
-  pub marks : marked ≡ filled (λ _. 0) point (next - point) presence
+  pub doubles : after .doubles ≡ filled (λ _. fin false 0 (pos 0)) point (next - point) (before .doubles)
+  pub marks : after .marks ≡ filled (λ _. 0) point (next - point) (before .marks)
+
+-- They are missing, and the next one is present, if it is not the end.
+pub record Cleared (bitmap : List ℕ) (point next : ℕ) (before after : Runs) : Type 0 where
+  pub past : Missing bitmap point next before after
+  pub present : next < length (before .doubles) → bitAt bitmap next ≡ 1
 
 -- The 64 points from `from` on, up to the end at most, fill eight octets of the bitmap, and all bits of these are set.
 abbrev pub isFull : List ℕ → ℕ → ℕ → Bool

@@ -2,17 +2,16 @@
 ghost use mathlib.Core.Path.{_≡_};
 ghost use Prim.Native.Nat.{_*_, _≤_, _<_};
 ghost use lib.ListN.{length};
-ghost use Rattle.bits.specs.Bits.{bitAt};
 ghost use Rattle.section_6.specs.Presence.{onesBefore};
-ghost use Rattle.values_points.specs.Written.{Cleared, Written, isFull, Until};
+ghost use Rattle.values_points.specs.Written.{markedBy, lent, left, MarkedRoom, Cleared, Written, isFull, Until};
 use doubles::Packing;
 use octets::BitPlace;
 
 // Writes +0 to the points that are missing from `point` on, up to the next that is present or to the end, and answers where it stopped.
 pub fn clear_missing(bitmap: &[u8], values: &mut [f64], presence: &mut [u8], point: usize) -> usize
-    requires { ⌜ (length (now presence) ≡ length (now values)) × (length (now values) ≤ 16777216) × (length (now values) ≤ 8 * length (now bitmap)) ⌝ }
+    requires { ⌜ MarkedRoom (now bitmap) (now values) (now presence) ⌝ }
     requires { ⌜ point ≤ length (now values) ⌝ }
-    ensures { λ r. ⌜ Cleared (now (bitmap .entry)) point r (now (values .entry)) (now (values .exit)) (now (presence .entry)) (now (presence .exit)) ⌝ }
+    ensures { λ r. ⌜ Cleared (now (bitmap .entry)) point r (lent values presence) (left values presence) ⌝ }
 {
     let mut i = point;
     while i < values.len() {
@@ -35,9 +34,9 @@ pub fn write_next(
     presence: &mut [u8],
     point: usize,
 ) -> usize
-    requires { ⌜ (length (now presence) ≡ length (now values)) × (length (now values) ≤ 16777216) × (length (now values) ≤ 8 * length (now bitmap)) ⌝ }
+    requires { ⌜ MarkedRoom (now bitmap) (now values) (now presence) ⌝ }
     requires { ⌜ (point ≤ length (now values)) × (onesBefore (now bitmap) point < onesBefore (now bitmap) (length (now values))) ⌝ }
-    ensures { λ r. ⌜ Written (bitAt (now (bitmap .entry))) (onesBefore (now (bitmap .entry))) packing (λ _. x) 1 point r (now (values .entry)) (now (values .exit)) (now (presence .entry)) (now (presence .exit)) ⌝ }
+    ensures { λ r. ⌜ Written (markedBy (now (bitmap .entry))) packing (λ _. x) 1 point r (lent values presence) (left values presence) ⌝ }
 {
     let next = clear_missing(bitmap, values, presence, point);
     values[next] = doubles::rebuild(packing, x);

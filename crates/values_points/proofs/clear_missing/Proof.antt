@@ -5,13 +5,14 @@ use native.Mathlib.Omega.{arith}
 use borrow.Author.Needs.{needs}
 use lib.ListN.{length, length-set}
 use Rattle.bits.proofs.Laws.{bit-lt}
-use Rattle.values_points.proofs.Missing.{Missing, zero-literal, missing-none, missing-more, missing-cleared}
+use Rattle.values_points.specs.Written.{runs, Missing}
+use Rattle.values_points.proofs.Missing.{zero-literal, missing-none, missing-more}
 use Rattle.values_points.proofs.clear_missing.Statement.{statement}
 use Rattle.values_points.proofs.clear_missing.Tie as tie
 
 abbrev Inv-loop : tie.InvT-loop
 Inv-loop bitmap values₀ presence₀ point i₀ values presence i =
-    (length values ≡ length values₀) × (length presence ≡ length presence₀) × Missing bitmap point i values₀ values presence₀ presence
+    (length values ≡ length values₀) × (length presence ≡ length presence₀) × Missing bitmap point i (runs values₀ presence₀) (runs values presence)
 
 abbrev μ-loop : tie.MeasureT-loop
 μ-loop bitmap values₀ presence₀ point i₀ values presence i = length values₀ - i
@@ -19,7 +20,7 @@ abbrev μ-loop : tie.MeasureT-loop
 loop-holds : tie.Need-loop-holds Inv-loop μ-loop
 loop-holds c =
     let a = c .before .before .before .args in
-    (refl, refl, missing-none (a .bitmap .now) (a .point) (a .values .now) (a .presence .now) (c .before .before .before .pre .1))
+    (refl, refl, missing-none (a .bitmap .now) (a .point) (runs (a .values .now) (a .presence .now)) (c .before .before .before .pre .1))
 
 bit-in-requires : tie.Need-bit-in-requires Inv-loop μ-loop
 bit-in-requires c κs = search needs
@@ -34,8 +35,7 @@ returns : tie.Need-returns Inv-loop μ-loop
 returns c =
     let l = c .before .before .before in
     let a = l .before .before .before .before .args in
-    missing-cleared (a .bitmap .now) (a .point) (a .values .now) (a .presence .now) (l .loop .inv .2)
-    (λ _. omega (arith, c .before .bit-in .ensures, c .if1 .taken, bit-lt (a .bitmap .now) (l .loop .i)))
+    record { past = l .loop .inv .2; present = λ _. omega (arith, c .before .bit-in .ensures, c .if1 .taken, bit-lt (a .bitmap .now) (l .loop .i)) }
 
 mul-values : tie.Need-mul-values Inv-loop μ-loop
 mul-values c = search needs
@@ -59,7 +59,7 @@ loop-again c =
     rw zero-literal (
       length-set (l .loop .values) (l .loop .i) _ ∙ l .loop .inv .0,
       length-set (l .loop .presence) (l .loop .i) _ ∙ l .loop .inv .1,
-      missing-more (a .bitmap .now) (a .point) (a .values .now) (a .presence .now) (l .loop .inv .2) (omega arith) (sym (c .before .bit-in .ensures) ∙ c .if1 .left),
+      missing-more (a .bitmap .now) (a .point) (runs (a .values .now) (a .presence .now)) (l .loop .inv .2) (omega arith) (sym (c .before .bit-in .ensures) ∙ c .if1 .left),
     )
 
 same-length-3 : tie.Need-same-length-3 Inv-loop μ-loop
@@ -69,10 +69,7 @@ same-length-4 : tie.Need-same-length-4 Inv-loop μ-loop
 same-length-4 c = search needs
 
 returns-2 : tie.Need-returns-2 Inv-loop μ-loop
-returns-2 c =
-    let l = c .before in
-    let a = l .before .before .before .before .args in
-    missing-cleared (a .bitmap .now) (a .point) (a .values .now) (a .presence .now) (l .loop .inv .2) (λ before. absurd (omega arith))
+returns-2 c = record { past = c .before .loop .inv .2; present = λ before. absurd (omega arith) }
 
 pub clear-missing-spec : {M : Type 1} → statement M
 clear-missing-spec =
