@@ -12,7 +12,7 @@ use Rattle.bits.specs.Bits.{bitsAt}
 use Rattle.values_group.specs.declared.Group as declared
 use Rattle.values_group.specs.declared.Worked as declaredWorked
 use Rattle.values_group.specs.declared.Worked.the-variants as Worked
-use Rattle.values_group.specs.Group.{mostX, judged, next, packedNumber, workedBy, isKept, lastOf, integerBy, Limits, behind}
+use Rattle.values_group.specs.Group.{mostX, judged, next, packedNumber, workedBy, isKept, lastOf, integerFrom, Limits, behind}
 use Rattle.values_group.proofs.Steps.{InRange}
 use Rattle.values_group.proofs.Turns.{place-more, worked-read, read-in-range}
 
@@ -105,7 +105,7 @@ module _ (run : List ℕ) (g : declared.Group) where
     pub behind-kept : (j : ℕ) → workedBy run (behind g k) (Worked.Kept x before) j ≡ workedBy run g (Worked.Kept latest earlier) (k + j)
     behind-kept j = ap (λ (v : declaredWorked.Worked). workedBy run (behind g k) v j) (sym kept) ∙ behind-worked (Worked.Kept latest earlier) k j
 
-    pub behind-integer : (j : ℕ) → integerBy run (behind g k) x before j ≡ integerBy run g latest earlier (k + j)
+    pub behind-integer : (j : ℕ) → integerFrom run (behind g k) x before j ≡ integerFrom run g latest earlier (k + j)
     behind-integer j = ap lastOf (behind-kept (suc j) ∙ ap (workedBy run g (Worked.Kept latest earlier)) (add-suc k j))
 
     -- What is left keeps the sizes of the group: it ends where the group ends.

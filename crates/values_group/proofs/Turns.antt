@@ -15,8 +15,9 @@ use Rattle.doubles.specs.Doubles.{rebuilt}
 use Rattle.values_group.specs.declared.Group as declared
 use Rattle.values_group.specs.declared.Worked as declaredWorked
 use Rattle.values_group.specs.declared.Worked.the-variants as Worked
-use Rattle.values_group.specs.Group.{mostX, judged, packedNumber, workedBy, isKept, lastOf, integerBy}
+use Rattle.values_group.specs.Group.{mostX, judged, packedNumber, workedBy, isKept, lastOf, integerFrom}
 use Rattle.values_group.proofs.Steps.{InRange, worked-next, next-in-range, kept-earlier}
+use Rattle.values_points.specs.Written.{Runs, runs}
 use Rattle.values_points.proofs.Present as Present
 
 -- The group that the locals of a loop hold.
@@ -46,16 +47,15 @@ module _ (run : List ℕ) (g : declared.Group) (w : declaredWorked.Worked) (k x 
 
 -- The points of a group, where all are present: the next one gets the next integer.
 module _ (run : List ℕ) (g : declared.Group) (latest earlier : ℕ) (packing : Packing) where
-  abbrev pub WrittenAll : (point i : ℕ) (values written : List Float) (presence marked : List ℕ) → Type 0
-  WrittenAll = Present.WrittenAll packing (integerBy run g latest earlier)
+  abbrev pub WrittenAll : (point i : ℕ) (a b : Runs) → Type 0
+  WrittenAll = Present.WrittenAll packing (integerFrom run g latest earlier)
 
-  pub all-none : (point : ℕ) (values : List Float) (presence : List ℕ) → point ≤ length values → WrittenAll point point values values presence presence
-  all-none point values presence h = Present.all-none packing (integerBy run g latest earlier) point values presence h
+  pub all-none : (point : ℕ) (a : Runs) → point ≤ length (a .doubles) → WrittenAll point point a a
+  all-none point a h = Present.all-none packing (integerFrom run g latest earlier) point a h
 
-  pub all-more : {point i next x : ℕ} {double : Float} {values written : List Float} {presence marked : List ℕ} →
-      WrittenAll point i values written presence marked → i < length values →
+  pub all-more : {point i next x : ℕ} {double : Float} {a b : Runs} → WrittenAll point i a b → i < length (a .doubles) →
       workedBy run g (Worked.Kept latest earlier) (i - point + 1) ≡ Worked.Kept next x → double ≡ rebuilt packing next →
-      WrittenAll point (i + 1) values (set written i double) presence (set marked i 1)
+      WrittenAll point (i + 1) a (runs (set (b .doubles) i double) (set (b .marks) i 1))
   all-more {point} {i} {next} w h kept same =
-      let given : next ≡ integerBy run g latest earlier (i - point) = ap lastOf (sym kept ∙ ap (workedBy run g (Worked.Kept latest earlier)) (add-one (i - point))) in
-      Present.all-more packing (integerBy run g latest earlier) {y = next} w h given same
+      let given : next ≡ integerFrom run g latest earlier (i - point) = ap lastOf (sym kept ∙ ap (workedBy run g (Worked.Kept latest earlier)) (add-one (i - point))) in
+      Present.all-more packing (integerFrom run g latest earlier) {y = next} w h given same

@@ -1,10 +1,15 @@
 -- How the code works out the integers X of one group: in numbers without a sign, and only while each is in its range.
-use Prim.Native.Nat.{ℕ, zero, suc, _+_, _-_, _*_, _≤_}
+use Prim.Native.Nat.{ℕ, zero, suc, _+_, _-_, _*_, _/_, _≤_}
+use mathlib.Core.Path.{_≡_}
 use mathlib.Core.Bool.{Bool, true, false, cond}
 use mathlib.Core.List.{List}
 use lib.Dec.{ltb}
+use lib.ListN.{length}
 use Rattle.bits.specs.Bits.{bitsAt}
+use Rattle.doubles.specs.declared.Packing.{Packing}
+use Rattle.values_points.specs.Written.{Marks, Runs, Written}
 use Rattle.values_group.specs.declared.Group as declared
+use Rattle.values_group.specs.declared.Reached.{Reached}
 use Rattle.values_group.specs.declared.Worked as declaredWorked
 use Rattle.values_group.specs.declared.Worked.the-variants as Worked
 
@@ -39,8 +44,8 @@ lastOf (Worked.Kept x before) = x
 lastOf Worked.Out = 0
 
 -- The integer k of the group, behind two others.
-abbrev pub integerBy : List ℕ → declared.Group → ℕ → ℕ → ℕ → ℕ
-integerBy run g x before k = lastOf (workedBy run g (Worked.Kept x before) (suc k))
+abbrev pub integerFrom : List ℕ → declared.Group → ℕ → ℕ → ℕ → ℕ
+integerFrom run g x before k = lastOf (workedBy run g (Worked.Kept x before) (suc k))
 
 -- Sizes within which no sum here leaves the machine's numbers.
 pub record Limits (g : declared.Group) (x before : ℕ) : Type 0 where
@@ -51,6 +56,21 @@ pub record Limits (g : declared.Group) (x before : ℕ) : Type 0 where
   pub ofCount : g .count ≤ 4294967296
   pub ofLast : x ≤ mostX
   pub ofBefore : before ≤ mostX
+
+-- Such sizes, and so many pairs of the group's numbers can be read two at a time: they are among its numbers, two fit a window, and eight octets are
+-- left behind each.
+abbrev pub PairLimits : List ℕ → declared.Group → ℕ → ℕ → ℕ → Type 0
+PairLimits run g pairs x before =
+    (Limits g x before) × (2 * pairs ≤ g .count) × (g .width ≤ 28) × ((g .from .0 + 2 * pairs * g .width) / 8 + 8 ≤ length run)
+
+-- The first `count` integers of the group, behind the two last ones, have been judged: all are in their range.
+abbrev pub Judged : List ℕ → declared.Group → ℕ → Reached → Type 0
+Judged run g count from = isKept (workedBy run g (Worked.Kept (from .x) (from .before)) count) ≡ true
+
+-- They are written to the points from the next one on, up to where the writing has come then.
+abbrev pub GroupWritten : Marks → Packing → List ℕ → declared.Group → ℕ → Reached → Reached → Runs → Runs → Type 0
+GroupWritten m p run g count from to before after =
+    Written m p (integerFrom run g (from .x) (from .before)) count (from .point) (to .point) before after
 
 -- What is left of a group behind its first numbers.
 abbrev pub behind : declared.Group → ℕ → declared.Group

@@ -1,13 +1,11 @@
 // One group of complex packing (5.3): the integers X of its values, judged before anything is written, and then written to the field's points.
 ghost use mathlib.Core.Path.{_≡_};
-ghost use mathlib.Core.Bool.{true};
-ghost use Prim.Native.Nat.{_+_, _*_, _/_, _≤_};
+ghost use Prim.Native.Nat.{_+_, _*_, _≤_};
 ghost use lib.ListN.{length};
-ghost use Rattle.bits.specs.Bits.{bitAt};
 ghost use Rattle.section_6.specs.Presence.{onesBefore};
-ghost use Rattle.values_points.specs.Written.{Written};
+ghost use Rattle.values_points.specs.Written.{everyPoint, markedBy, lent, left, Room, MarkedRoom};
 ghost use Rattle.values_group.specs.declared.Worked.the-variants as Worked;
-ghost use Rattle.values_group.specs.Group.{Limits, behind, isKept, workedBy, integerBy};
+ghost use Rattle.values_group.specs.Group.{Limits, PairLimits, Judged, GroupWritten, behind, workedBy};
 use doubles::Packing;
 use octets::BitPlace;
 
@@ -81,7 +79,7 @@ fn judge_each(section: &[u8], group: Group, latest: u64, earlier: u64) -> Worked
 
 // The same for so many pairs of integers, where eight octets are left at each.
 fn judge_pairs(section: &[u8], group: Group, pairs: u64, latest: u64, earlier: u64) -> Worked
-    requires { ⌜ (Limits group latest earlier) × (2 * pairs ≤ group .count) × (group .width ≤ 28) × ((group .from .0 + 2 * pairs * group .width) / 8 + 8 ≤ length (now section)) ⌝ }
+    requires { ⌜ PairLimits (now section) group pairs latest earlier ⌝ }
     ensures { λ r. ⌜ r ≡ workedBy (now (section .entry)) group (Worked.Kept latest earlier) (2 * pairs) ⌝ }
 {
     let width = group.width;
@@ -144,11 +142,11 @@ fn fill_each(
     reached: Reached,
 ) -> Reached
     requires { ⌜ Limits group (reached .x) (reached .before) ⌝ }
-    requires { ⌜ isKept (workedBy (now section) group (Worked.Kept (reached .x) (reached .before)) (group .count)) ≡ true ⌝ }
-    requires { ⌜ (length (now presence) ≡ length (now values)) × (length (now values) ≤ 16777216) ⌝ }
+    requires { ⌜ Judged (now section) group (group .count) reached ⌝ }
+    requires { ⌜ Room (now values) (now presence) ⌝ }
     requires { ⌜ reached .point + group .count ≤ length (now values) ⌝ }
     ensures { λ r. ⌜ workedBy (now (section .entry)) group (Worked.Kept (reached .x) (reached .before)) (group .count) ≡ Worked.Kept (r .x) (r .before) ⌝ }
-    ensures { λ r. ⌜ Written (λ _. 1) (λ i. i) packing (integerBy (now (section .entry)) group (reached .x) (reached .before)) (group .count) (reached .point) (r .point) (now (values .entry)) (now (values .exit)) (now (presence .entry)) (now (presence .exit)) ⌝ }
+    ensures { λ r. ⌜ GroupWritten everyPoint packing (now (section .entry)) group (group .count) reached r (lent values presence) (left values presence) ⌝ }
 {
     let width = group.width;
     let base = group.base;
@@ -186,12 +184,12 @@ fn fill_pairs(
     presence: &mut [u8],
     reached: Reached,
 ) -> Reached
-    requires { ⌜ (Limits group (reached .x) (reached .before)) × (2 * pairs ≤ group .count) × (group .width ≤ 28) × ((group .from .0 + 2 * pairs * group .width) / 8 + 8 ≤ length (now section)) ⌝ }
-    requires { ⌜ isKept (workedBy (now section) group (Worked.Kept (reached .x) (reached .before)) (2 * pairs)) ≡ true ⌝ }
-    requires { ⌜ (length (now presence) ≡ length (now values)) × (length (now values) ≤ 16777216) ⌝ }
+    requires { ⌜ PairLimits (now section) group pairs (reached .x) (reached .before) ⌝ }
+    requires { ⌜ Judged (now section) group (2 * pairs) reached ⌝ }
+    requires { ⌜ Room (now values) (now presence) ⌝ }
     requires { ⌜ reached .point + 2 * pairs ≤ length (now values) ⌝ }
     ensures { λ r. ⌜ workedBy (now (section .entry)) group (Worked.Kept (reached .x) (reached .before)) (2 * pairs) ≡ Worked.Kept (r .x) (r .before) ⌝ }
-    ensures { λ r. ⌜ Written (λ _. 1) (λ i. i) packing (integerBy (now (section .entry)) group (reached .x) (reached .before)) (2 * pairs) (reached .point) (r .point) (now (values .entry)) (now (values .exit)) (now (presence .entry)) (now (presence .exit)) ⌝ }
+    ensures { λ r. ⌜ GroupWritten everyPoint packing (now (section .entry)) group (2 * pairs) reached r (lent values presence) (left values presence) ⌝ }
 {
     let width = group.width;
     let base = group.base;
@@ -233,11 +231,11 @@ pub fn fill_all(
     reached: Reached,
 ) -> Reached
     requires { ⌜ Limits group (reached .x) (reached .before) ⌝ }
-    requires { ⌜ isKept (workedBy (now section) group (Worked.Kept (reached .x) (reached .before)) (group .count)) ≡ true ⌝ }
-    requires { ⌜ (length (now presence) ≡ length (now values)) × (length (now values) ≤ 16777216) ⌝ }
+    requires { ⌜ Judged (now section) group (group .count) reached ⌝ }
+    requires { ⌜ Room (now values) (now presence) ⌝ }
     requires { ⌜ reached .point + group .count ≤ length (now values) ⌝ }
     ensures { λ r. ⌜ workedBy (now (section .entry)) group (Worked.Kept (reached .x) (reached .before)) (group .count) ≡ Worked.Kept (r .x) (r .before) ⌝ }
-    ensures { λ r. ⌜ Written (λ _. 1) (λ i. i) packing (integerBy (now (section .entry)) group (reached .x) (reached .before)) (group .count) (reached .point) (r .point) (now (values .entry)) (now (values .exit)) (now (presence .entry)) (now (presence .exit)) ⌝ }
+    ensures { λ r. ⌜ GroupWritten everyPoint packing (now (section .entry)) group (group .count) reached r (lent values presence) (left values presence) ⌝ }
 {
     let pairs = bits::pairs_in(section.len(), group.from, group.width, group.count as usize) as u64;
     if pairs == 0 {
@@ -265,11 +263,11 @@ pub fn fill_marked(
     reached: Reached,
 ) -> Reached
     requires { ⌜ Limits group (reached .x) (reached .before) ⌝ }
-    requires { ⌜ isKept (workedBy (now section) group (Worked.Kept (reached .x) (reached .before)) (group .count)) ≡ true ⌝ }
-    requires { ⌜ (length (now presence) ≡ length (now values)) × (length (now values) ≤ 16777216) × (length (now values) ≤ 8 * length (now bitmap)) ⌝ }
+    requires { ⌜ Judged (now section) group (group .count) reached ⌝ }
+    requires { ⌜ MarkedRoom (now bitmap) (now values) (now presence) ⌝ }
     requires { ⌜ (reached .point ≤ length (now values)) × (onesBefore (now bitmap) (reached .point) + group .count ≤ onesBefore (now bitmap) (length (now values))) ⌝ }
     ensures { λ r. ⌜ workedBy (now (section .entry)) group (Worked.Kept (reached .x) (reached .before)) (group .count) ≡ Worked.Kept (r .x) (r .before) ⌝ }
-    ensures { λ r. ⌜ Written (bitAt (now (bitmap .entry))) (onesBefore (now (bitmap .entry))) packing (integerBy (now (section .entry)) group (reached .x) (reached .before)) (group .count) (reached .point) (r .point) (now (values .entry)) (now (values .exit)) (now (presence .entry)) (now (presence .exit)) ⌝ }
+    ensures { λ r. ⌜ GroupWritten (markedBy (now (bitmap .entry))) packing (now (section .entry)) group (group .count) reached r (lent values presence) (left values presence) ⌝ }
 {
     let width = group.width;
     let base = group.base;

@@ -5,10 +5,11 @@ use native.Mathlib.Omega.{arith}
 use borrow.Author.Needs.{needs}
 use lib.ListN.{length}
 use Rattle.bits.proofs.Pairs.{Paired, pairs-paired}
+use Rattle.values_points.specs.Written.{everyPoint}
 use Rattle.values_points.proofs.Laws.{written-then}
 use Rattle.values_group.specs.declared.Group.{Group}
 use Rattle.values_group.specs.declared.Worked.the-variants as Worked
-use Rattle.values_group.specs.Group.{workedBy, isKept, integerBy, behind}
+use Rattle.values_group.specs.Group.{workedBy, isKept, integerFrom, behind}
 use Rattle.values_group.proofs.Steps.{kept-earlier}
 use Rattle.values_group.proofs.Pairs.{behind-kept, behind-integer, behind-limits}
 use Rattle.values_group.proofs.fill_all.Statement.{statement}
@@ -89,7 +90,7 @@ fill-each-requires-2 c κs =
         ap isKept (left b) ∙ s .pre .1 .0,
         (
           (omega (arith, filled .fill-pairs .kept, s .pre .1 .1 .0), omega (arith, filled .fill-pairs .kept, s .pre .1 .1 .0)),
-          omega (arith, filled .fill-pairs .kept, s .pre .1 .1 .1, filled .fill-pairs .ensures .1 .used, paired counted .few),
+          omega (arith, filled .fill-pairs .kept, s .pre .1 .1 .1, filled .fill-pairs .ensures .1 .past .used, paired counted .few),
         ),
       ),
     )
@@ -114,7 +115,7 @@ returns-2 c =
     let all : 2 * pairs + rest .count ≡ a .group .count = omega (arith, paired counted .few) in (
       sym (left b) ∙ ap (λ (g : Group). workedBy run g (Worked.Kept (r .x) (r .before)) (g .count)) (sym (b .behind .ensures)) ∙ each .fill-each2 .ensures .0,
       rw all at (
-          written-then (λ _. 1) (λ i. i) (λ i. refl) (a .packing) (integerBy run (a .group) (a .reached .x) (a .reached .before)) (integerBy run rest (r .x) (r .before))
+          written-then everyPoint (λ i. refl) (a .packing) (integerFrom run (a .group) (a .reached .x) (a .reached .before)) (integerFrom run rest (r .x) (r .before))
           (filled .fill-pairs .ensures .1)
           (rw (b .behind .ensures) at (each .fill-each2 .ensures .1))
           (λ j h. behind-integer run (a .group) (a .reached .x) (a .reached .before) (2 * pairs) (filled .fill-pairs .ensures .0) j)

@@ -5,13 +5,12 @@ use Prim.Native.Nat.{ℕ, _+_, _-_, _*_, _%_, _≤_, _<_, suc}
 use native.Mathlib.Omega.{arith}
 use borrow.Author.Needs.{needs}
 use lib.ListN.{length}
-use Rattle.bits.specs.Bits.{bitAt}
 use Rattle.section_6.specs.Presence.{onesBefore}
 use Rattle.section_6.proofs.Laws.{ones-more}
-use Rattle.values_points.specs.Written.{Written}
+use Rattle.values_points.specs.Written.{runs, markedBy, Written}
 use Rattle.values_points.proofs.Laws.{written-none, written-then}
 use Rattle.values_group.specs.declared.Worked.the-variants as Worked
-use Rattle.values_group.specs.Group.{mostX, workedBy, lastOf, integerBy}
+use Rattle.values_group.specs.Group.{mostX, workedBy, lastOf, integerFrom}
 use Rattle.values_group.proofs.Steps.{InRange}
 use Rattle.values_group.proofs.Turns.{groupOf, place-more, worked-read, read-in-range, own-remainder}
 use Rattle.values_group.proofs.fill_marked.Statement.{statement}
@@ -22,7 +21,7 @@ Inv-loop section bitmap packing values₀ presence₀ width base lowered count a
     (done ≤ count) × (length values ≡ length values₀) × (length presence ≡ length presence₀)
     × (at .0 ≡ at₀ .0 + done * width) × (at .0 ≤ at₀ .0 + done * 31) × (x ≤ mostX) × (before ≤ mostX)
     × (workedBy section (groupOf (at₀ .0) width base lowered count) (Worked.Kept x₀ before₀) done ≡ Worked.Kept x before)
-    × Written (bitAt bitmap) (onesBefore bitmap) packing (integerBy section (groupOf (at₀ .0) width base lowered count) x₀ before₀) done i₀ i values₀ values presence₀ presence
+    × Written (markedBy bitmap) packing (integerFrom section (groupOf (at₀ .0) width base lowered count) x₀ before₀) done i₀ i (runs values₀ presence₀) (runs values presence)
 
 abbrev μ-loop : tie.MeasureT-loop
 μ-loop section bitmap packing values₀ presence₀ width base lowered count at₀ x₀ before₀ i₀ done₀ values presence at x before i done = count - done
@@ -32,7 +31,7 @@ abbrev Begun : tie.After-take Inv-loop μ-loop → tie.Start Inv-loop μ-loop
 Begun c = c .before .before .before .before .before .before .before .before
 
 abbrev integers : tie.Start Inv-loop μ-loop → ℕ → ℕ
-integers s = integerBy (s .args .section .now) (s .args .group) (s .args .reached .x) (s .args .reached .before)
+integers s = integerFrom (s .args .section .now) (s .args .group) (s .args .reached .x) (s .args .reached .before)
 
 -- The next integer is in its range, as all of the group's are.
 ranged : (c : tie.After-take Inv-loop μ-loop) →
@@ -70,7 +69,7 @@ loop-holds c =
       s .pre .0 .ofLast,
       s .pre .0 .ofBefore,
       refl,
-      written-none (bitAt run) (onesBefore run) (ones-more run) (s .args .packing) (integers s) (s .args .reached .point) (s .args .values .now) (s .args .presence .now) (s .pre .1 .1 .1 .0),
+      written-none (markedBy run) (ones-more run) (s .args .packing) (integers s) (s .args .reached .point) (runs (s .args .values .now) (s .args .presence .now)) (s .pre .1 .1 .1 .0),
     )
 
 take-requires : tie.Need-take-requires Inv-loop μ-loop
@@ -101,7 +100,7 @@ write-next-requires : tie.Need-write-next-requires Inv-loop μ-loop
 write-next-requires c κs =
     let taken = c .before .before .before in
     let l = taken .before .before .loop in
-    omega (arith, l .inv .8 .used, l .inv .8 .within, ap (onesBefore (Begun taken .args .bitmap .now)) (l .inv .1), Begun taken .pre .1 .1)
+    omega (arith, l .inv .8 .past .used, l .inv .8 .past .within, ap (onesBefore (Begun taken .args .bitmap .now)) (l .inv .1), Begun taken .pre .1 .1)
 
 add-done : tie.Need-add-done Inv-loop μ-loop
 add-done c = search needs
@@ -130,7 +129,7 @@ loop-again c =
       ranged taken .high,
       l .inv .5,
       next,
-      written-then (bitAt run) (onesBefore run) (ones-more run) (s .args .packing) (integers s) (λ _. x % 2147483648) (l .inv .8) (write .write-next .ensures) given,
+      written-then (markedBy run) (ones-more run) (s .args .packing) (integers s) (λ _. x % 2147483648) (l .inv .8) (write .write-next .ensures) given,
     )
 
 same-length : tie.Need-same-length Inv-loop μ-loop
@@ -147,7 +146,7 @@ returns c =
     let run = a .bitmap .now in
     let all : l .done ≡ a .group .count = omega arith in (
       sym (ap (workedBy (a .section .now) (a .group) (Worked.Kept (a .reached .x) (a .reached .before))) all) ∙ l .inv .7,
-      subst (λ (n : ℕ). Written (bitAt run) (onesBefore run) (a .packing) (integers s) n (a .reached .point) (l .point) (a .values .now) (l .values) (a .presence .now) (l .presence)) all (l .inv .8),
+      subst (λ (n : ℕ). Written (markedBy run) (a .packing) (integers s) n (a .reached .point) (l .point) (runs (a .values .now) (a .presence .now)) (runs (l .values) (l .presence))) all (l .inv .8),
     )
 
 pub fill-marked-spec : {M : Type 1} → statement M

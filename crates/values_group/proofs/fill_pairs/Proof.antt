@@ -6,6 +6,7 @@ use native.Mathlib.Omega.{arith}
 use borrow.Author.Needs.{needs}
 use lib.ListN.{length, set, length-set}
 use Rattle.doubles.specs.Doubles.{rebuilt}
+use Rattle.values_points.specs.Written.{runs}
 use Rattle.values_group.specs.declared.Group.{Group}
 use Rattle.values_group.specs.declared.Worked.the-variants as Worked
 use Rattle.values_group.specs.Group.{mostX, workedBy}
@@ -20,7 +21,7 @@ Inv-loop section pairs packing values₀ presence₀ width base lowered end at�
     (i₀ ≤ i) × (i ≤ end) × ((i - i₀) % 2 ≡ 0) × (length values ≡ length values₀) × (length presence ≡ length presence₀)
     × (at .0 ≡ at₀ .0 + (i - i₀) * width) × (at .0 ≤ at₀ .0 + (i - i₀) * 31) × (x ≤ mostX) × (before ≤ mostX)
     × ((count : ℕ) → workedBy section (groupOf (at₀ .0) width base lowered count) (Worked.Kept x₀ before₀) (i - i₀) ≡ Worked.Kept x before)
-    × ((count : ℕ) → WrittenAll section (groupOf (at₀ .0) width base lowered count) x₀ before₀ packing i₀ i values₀ values presence₀ presence)
+    × ((count : ℕ) → WrittenAll section (groupOf (at₀ .0) width base lowered count) x₀ before₀ packing i₀ i (runs values₀ presence₀) (runs values presence))
 
 abbrev μ-loop : tie.MeasureT-loop
 μ-loop section pairs packing values₀ presence₀ width base lowered end at₀ x₀ before₀ i₀ values presence at x before i = end - i
@@ -120,7 +121,7 @@ loop-holds c =
       start .pre .0 .0 .ofLast,
       start .pre .0 .0 .ofBefore,
       λ count. rw none refl,
-      λ count. all-none (a .section .now) (g count) (a .reached .x) (a .reached .before) (a .packing) (a .reached .point) (a .values .now) (a .presence .now) (omega arith),
+      λ count. all-none (a .section .now) (g count) (a .reached .x) (a .reached .before) (a .packing) (a .reached .point) (runs (a .values .now) (a .presence .now)) (omega arith),
     )
 
 take-pair-requires : tie.Need-take-pair-requires Inv-loop μ-loop
