@@ -3,7 +3,7 @@ ghost use mathlib.Core.Path.{_≡_};
 ghost use Prim.Native.Nat.{_+_, _*_, _≤_};
 ghost use lib.ListN.{length};
 ghost use Rattle.section_6.specs.Presence.{onesBefore};
-ghost use Rattle.values_points.specs.Written.{everyPoint, markedBy, lent, left, Room, MarkedRoom};
+ghost use Rattle.values_points.specs.Written.{everyPoint, marked, lent, left, Room, MarkedRoom};
 ghost use Rattle.values_group.specs.declared.Worked.the-variants as Worked;
 ghost use Rattle.values_group.specs.Group.{Limits, PairLimits, Judged, GroupWritten, behind, workedBy};
 use doubles::Packing;
@@ -267,7 +267,7 @@ pub fn fill_marked(
     requires { ⌜ MarkedRoom (now bitmap) (now values) (now presence) ⌝ }
     requires { ⌜ (reached .point ≤ length (now values)) × (onesBefore (now bitmap) (reached .point) + group .count ≤ onesBefore (now bitmap) (length (now values))) ⌝ }
     ensures { λ r. ⌜ workedBy (now (section .entry)) group (Worked.Kept (reached .x) (reached .before)) (group .count) ≡ Worked.Kept (r .x) (r .before) ⌝ }
-    ensures { λ r. ⌜ GroupWritten (markedBy (now (bitmap .entry))) packing (now (section .entry)) group (group .count) reached r (lent values presence) (left values presence) ⌝ }
+    ensures { λ r. ⌜ GroupWritten (marked (now (bitmap .entry))) packing (now (section .entry)) group (group .count) reached r (lent values presence) (left values presence) ⌝ }
 {
     let width = group.width;
     let base = group.base;

@@ -10,7 +10,7 @@ use lib.Ieee.{Float, fin}
 use denote.Ref.{RefT, now}
 use denote.Triple.Both.{Both}
 use Rattle.octets.specs.Numbers.{numberAt}
-use Rattle.laws_rows.specs.Rows.{filled}
+use Rattle.laws_rows.specs.Rows.{row, filled}
 use Rattle.bits.specs.Bits.{bitAt}
 use Rattle.doubles.specs.declared.Packing.{Packing}
 use Rattle.section_6.specs.Presence.{onesBefore}
@@ -26,8 +26,8 @@ abbrev pub everyPoint : Marks
 everyPoint = record { mark = λ _. 1; rank = λ i. i }
 
 -- The points are present that have a 1 in a bitmap.
-abbrev pub markedBy : List ℕ → Marks
-markedBy bitmap = record { mark = bitAt bitmap; rank = onesBefore bitmap }
+abbrev pub marked : List ℕ → Marks
+marked bitmap = record { mark = bitAt bitmap; rank = onesBefore bitmap }
 
 -- The two runs that are lent for the points of a field: their doubles, and whether each is present.
 pub record Runs : Type 0 where
@@ -79,6 +79,11 @@ pub record Missing (bitmap : List ℕ) (point next : ℕ) (before after : Runs) 
 pub record Cleared (bitmap : List ℕ) (point next : ℕ) (before after : Runs) : Type 0 where
   pub past : Missing bitmap point next before after
   pub present : next < length (before .doubles) → bitAt bitmap next ≡ 1
+
+-- Both runs are written from their first element to their last: the integer numbered m is `x m`.
+abbrev pub Filled : Marks → Packing → (ℕ → ℕ) → Runs → Runs → Type 0
+Filled m p x before after =
+    (after .doubles ≡ row (doubleAt p x (m .mark) (m .rank)) (length (before .doubles))) × (after .marks ≡ row (m .mark) (length (before .doubles)))
 
 -- The 64 points from `from` on, up to the end at most, fill eight octets of the bitmap, and all bits of these are set.
 abbrev pub isFull : List ℕ → ℕ → ℕ → Bool

@@ -10,25 +10,25 @@ use lib.ListN.{length}
 use lib.Ieee.{Float}
 use Rattle.octets.proofs.Cases.{split}
 use Rattle.bits.specs.Bits.{bitAt}
-use Rattle.laws_rows.specs.Rows.{row, filled}
+use Rattle.laws_rows.specs.Rows.{filled}
 use Rattle.laws_rows.proofs.Laws.{filled-same, start-end}
 use Rattle.doubles.specs.declared.Packing.{Packing}
 use Rattle.section_6.specs.Presence.{onesBefore}
 use Rattle.section_6.proofs.Laws.{ones-more}
 use Rattle.values_points.specs.Points.{pointValue, doubleAt}
-use Rattle.values_points.specs.Written.{Cleared, Until}
-use Rattle.values_points.proofs.Laws.{WrittenPast, past-then, written-field}
+use Rattle.values_points.specs.Written.{Marks, marked, Runs, WrittenPast, Cleared, Filled, Until}
+use Rattle.values_points.proofs.Laws.{past-then, written-field}
 use Rattle.values_points.proofs.Missing.{cleared-past, cleared-further}
 use Rattle.values_points.proofs.Present.{WrittenAll}
 
--- Where all points of a field are written, both runs are rows.
-pub written-rows : (mark rank : ℕ → ℕ) → ((i : ℕ) → rank (i + 1) ≡ rank i + mark i) → (packing : Packing) (x : ℕ → ℕ) → rank 0 ≡ 0 →
-    {count end : ℕ} {values written : List Float} {presence marked : List ℕ} → WrittenPast mark rank packing x count 0 end values written presence marked →
-    end ≡ length values → end ≡ length presence → (written ≡ row (doubleAt packing x mark rank) (length values)) × (marked ≡ row mark (length values))
-written-rows mark rank step packing x none {count} {end} {values} {written} {presence} {marked} w whole same =
-    let field : written ≡ filled (doubleAt packing x mark rank) 0 (end - 0) values = written-field mark rank step packing x x w (λ k _. ap x (omega (arith, none))) in (
-      start-end (doubleAt packing x mark rank) end values written (rw (sub-zero end) at field) (length values) whole refl,
-      start-end mark end presence marked (rw (sub-zero end) at (w .marks)) (length values) whole (sym whole ∙ same),
+-- Where all points of a field are written, both runs are filled.
+pub written-rows : (m : Marks) → ((i : ℕ) → m .rank (i + 1) ≡ m .rank i + m .mark i) → (packing : Packing) (x : ℕ → ℕ) → m .rank 0 ≡ 0 →
+    {count end : ℕ} {a b : Runs} → WrittenPast m packing x count 0 end a b → end ≡ length (a .doubles) → end ≡ length (a .marks) → Filled m packing x a b
+written-rows m step packing x none {count} {end} {a} {b} w whole same =
+    let doubles : ℕ → Float = doubleAt packing x (m .mark) (m .rank) in
+    let field : b .doubles ≡ filled doubles 0 (end - 0) (a .doubles) = written-field m step packing x x w (λ k _. ap x (omega (arith, none))) in (
+      start-end doubles end (a .doubles) (b .doubles) (rw (sub-zero end) at field) (length (a .doubles)) whole refl,
+      start-end (m .mark) end (a .marks) (b .marks) (rw (sub-zero end) at (w .marks)) (length (a .doubles)) whole (sym whole ∙ same),
     )
 
 -- Points that are all present add their number to the count of those present.
@@ -41,22 +41,21 @@ ones-present bitmap from (suc n) h =
     ∙ omega (arith, ones-present bitmap from n (λ i l m. h i l (omega arith)), h (from + n) (omega arith) (omega arith))
 
 -- A stretch that is written as all present is one written by a bitmap that has all of its points.
-pub all-marked : (bitmap : List ℕ) (packing : Packing) (x : ℕ → ℕ) {from to : ℕ} {values written : List Float} {presence marked : List ℕ} →
-    WrittenAll packing x from to values written presence marked → ((i : ℕ) → from ≤ i → i < to → bitAt bitmap i ≡ 1) →
-    WrittenPast (bitAt bitmap) (onesBefore bitmap) packing x (to - from) from to values written presence marked
-all-marked bitmap packing x {from} {to} {values} {written} {presence} {marked} w present =
+pub all-marked : (bitmap : List ℕ) (packing : Packing) (x : ℕ → ℕ) {from to : ℕ} {a b : Runs} →
+    WrittenAll packing x from to a b → ((i : ℕ) → from ≤ i → i < to → bitAt bitmap i ≡ 1) → WrittenPast (marked bitmap) packing x (to - from) from to a b
+all-marked bitmap packing x {from} {to} {a} {b} w present =
     record {
-      onward = w .onward;
-      within = w .within;
+      onward = w .past .onward;
+      within = w .past .within;
       used = ap (onesBefore bitmap) (sym whole) ∙ ones-present bitmap from (to - from) (λ i l m. present i l (omega (arith, whole)));
       doubles =
-          w .doubles
-          ∙ filled-same (doubleAt packing x (λ _. 1) (λ i. i - from)) (doubleAt packing x (bitAt bitmap) (λ i. onesBefore bitmap i - onesBefore bitmap from)) from (to - from) values double;
-      marks = w .marks ∙ filled-same (λ _. 1) (bitAt bitmap) from (to - from) presence (λ i l m. sym (present i l (omega (arith, whole))));
+          w .past .doubles
+          ∙ filled-same (doubleAt packing x (λ _. 1) (λ i. i - from)) (doubleAt packing x (bitAt bitmap) (λ i. onesBefore bitmap i - onesBefore bitmap from)) from (to - from) (a .doubles) double;
+      marks = w .past .marks ∙ filled-same (λ _. 1) (bitAt bitmap) from (to - from) (a .marks) (λ i l m. sym (present i l (omega (arith, whole))));
     }
   where
     whole : from + (to - from) ≡ to
-    whole = omega (arith, w .onward)
+    whole = omega (arith, w .past .onward)
 
     double : (i : ℕ) → from ≤ i → i < from + (to - from) →
         doubleAt packing x (λ _. 1) (λ j. j - from) i ≡ doubleAt packing x (bitAt bitmap) (λ j. onesBefore bitmap j - onesBefore bitmap from) i
@@ -68,25 +67,25 @@ all-marked bitmap packing x {from} {to} {values} {written} {presence} {marked} w
         ∙ ap (λ (mark : ℕ). pointValue packing mark (x (onesBefore bitmap i - onesBefore bitmap from))) (sym (present i l (omega (arith, whole))))
 
 -- A turn over a field with a bitmap: behind the points that are written, a stretch of points that are present and one of points that are missing.
-pub marked-turn : (bitmap : List ℕ) (packing : Packing) (x y : ℕ → ℕ) {i until next : ℕ} {values written between after : List Float} {presence marked marked' marked'' : List ℕ} →
-    WrittenPast (bitAt bitmap) (onesBefore bitmap) packing x (onesBefore bitmap i) 0 i values written presence marked →
-    WrittenAll packing y i until written between marked marked' → ((j : ℕ) → i ≤ j → j < until → bitAt bitmap j ≡ 1) → ((k : ℕ) → y k ≡ x (onesBefore bitmap i + k)) →
-    Cleared bitmap until next between after marked' marked'' →
-    (onesBefore bitmap next ≡ onesBefore bitmap i + (until - i)) × WrittenPast (bitAt bitmap) (onesBefore bitmap) packing x (onesBefore bitmap next) 0 next values after presence marked''
+pub marked-turn : (bitmap : List ℕ) (packing : Packing) (x y : ℕ → ℕ) {i until next : ℕ} {a b c d : Runs} →
+    WrittenPast (marked bitmap) packing x (onesBefore bitmap i) 0 i a b →
+    WrittenAll packing y i until b c → ((j : ℕ) → i ≤ j → j < until → bitAt bitmap j ≡ 1) → ((k : ℕ) → y k ≡ x (onesBefore bitmap i + k)) →
+    Cleared bitmap until next c d →
+    (onesBefore bitmap next ≡ onesBefore bitmap i + (until - i)) × WrittenPast (marked bitmap) packing x (onesBefore bitmap next) 0 next a d
 marked-turn bitmap packing x y {i} {until} {next} w v present same cleared =
     let stretch = all-marked bitmap packing y v present in
     let none = cleared-past packing x cleared in
-    let first = past-then (bitAt bitmap) (onesBefore bitmap) (ones-more bitmap) packing x y w stretch (λ k _. same k) in
-    let both = past-then (bitAt bitmap) (onesBefore bitmap) (ones-more bitmap) packing x x first none (λ k no. absurd (omega arith)) in
+    let first = past-then (marked bitmap) (ones-more bitmap) packing x y w stretch (λ k _. same k) in
+    let both = past-then (marked bitmap) (ones-more bitmap) packing x x first none (λ k no. absurd (omega arith)) in
     let count : onesBefore bitmap next ≡ onesBefore bitmap i + (until - i) + 0 = omega (arith, stretch .used, none .used) in
     (omega (arith, count), rw count both)
 
 -- Such a turn goes on: a point that ends the stretch of those present is missing, if it is not the end.
-pub turn-further : {bitmap : List ℕ} {i end until next : ℕ} {values written : List Float} {presence marked : List ℕ} →
-    Until bitmap i end until → Cleared bitmap until next values written presence marked → end ≡ length values → i < end → i < next
+pub turn-further : {bitmap : List ℕ} {i end until next : ℕ} {a b : Runs} →
+    Until bitmap i end until → Cleared bitmap until next a b → end ≡ length (a .doubles) → i < end → i < next
 turn-further {bitmap} {i} {end} {until} stretch cleared whole h =
     split (ltb until end)
     (λ inside.
     let before : until < end = ltb-true until end inside in
     omega (arith, stretch .onward, cleared-further cleared (omega arith) (stretch .missing before)))
-    (λ all. omega (arith, ltb-false until end all, cleared .onward))
+    (λ all. omega (arith, ltb-false until end all, cleared .past .onward))

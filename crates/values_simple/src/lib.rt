@@ -2,13 +2,9 @@
 ghost use mathlib.Core.Path.{_≡_};
 ghost use Prim.Native.Nat.{_+_, _-_, _*_, _/_, _≤_};
 ghost use lib.ListN.{length};
-ghost use Rattle.laws_rows.specs.Rows.{row};
-ghost use Rattle.bits.specs.Bits.{bitAt};
-ghost use Rattle.values_points.specs.Points.{doubleAt};
-ghost use Rattle.section_6.specs.Presence.{onesBefore};
-ghost use Rattle.values_points.specs.Written.{Written};
+ghost use Rattle.values_points.specs.Written.{everyPoint, marked, lent, left, Room, MarkedRoom, Filled};
 ghost use Rattle.values_integers.specs.Integers.{simpleInteger};
-ghost use Rattle.values_simple.specs.Simple.{numbersFrom};
+ghost use Rattle.values_simple.specs.Simple.{NumbersWritten};
 use doubles::Packing;
 use octets::BitPlace;
 use octets::OctetNumber;
@@ -24,9 +20,9 @@ fn fill_each(
     to: usize,
     first: BitPlace,
 ) -> BitPlace
-    requires { ⌜ (length (now presence) ≡ length (now values)) × (length (now values) ≤ 16777216) × (first .0 ≤ 2199023255552) ⌝ }
+    requires { ⌜ Room (now values) (now presence) × (first .0 ≤ 2199023255552) ⌝ }
     requires { ⌜ (from ≤ to) × (to ≤ length (now values)) × (bits ≤ 31) ⌝ }
-    ensures { λ _. ⌜ Written (λ _. 1) (λ i. i) packing (numbersFrom (now (section .entry)) bits (first .0)) (to - from) from to (now (values .entry)) (now (values .exit)) (now (presence .entry)) (now (presence .exit)) ⌝ }
+    ensures { λ _. ⌜ NumbersWritten packing (now (section .entry)) bits (first .0) from to (lent values presence) (left values presence) ⌝ }
     ensures { λ r. ⌜ r .0 ≡ first .0 + (to - from) * bits ⌝ }
 {
     let mut at = first;
@@ -52,9 +48,9 @@ fn fill_pairs(
     pairs: usize,
     first: BitPlace,
 ) -> BitPlace
-    requires { ⌜ (length (now presence) ≡ length (now values)) × (length (now values) ≤ 16777216) × (first .0 ≤ 1099511627776) ⌝ }
+    requires { ⌜ Room (now values) (now presence) × (first .0 ≤ 1099511627776) ⌝ }
     requires { ⌜ (from + 2 * pairs ≤ length (now values)) × (bits ≤ 28) × ((first .0 + 2 * pairs * bits) / 8 + 8 ≤ length (now section)) ⌝ }
-    ensures { λ _. ⌜ Written (λ _. 1) (λ i. i) packing (numbersFrom (now (section .entry)) bits (first .0)) (2 * pairs) from (from + 2 * pairs) (now (values .entry)) (now (values .exit)) (now (presence .entry)) (now (presence .exit)) ⌝ }
+    ensures { λ _. ⌜ NumbersWritten packing (now (section .entry)) bits (first .0) from (from + 2 * pairs) (lent values presence) (left values presence) ⌝ }
     ensures { λ r. ⌜ r .0 ≡ first .0 + 2 * pairs * bits ⌝ }
 {
     let end = from + 2 * pairs;
@@ -83,9 +79,9 @@ fn fill_present(
     to: usize,
     first: BitPlace,
 ) -> BitPlace
-    requires { ⌜ (length (now presence) ≡ length (now values)) × (length (now values) ≤ 16777216) × (first .0 ≤ 1099511627776) ⌝ }
+    requires { ⌜ Room (now values) (now presence) × (first .0 ≤ 1099511627776) ⌝ }
     requires { ⌜ (from ≤ to) × (to ≤ length (now values)) × (bits ≤ 31) ⌝ }
-    ensures { λ _. ⌜ Written (λ _. 1) (λ i. i) packing (numbersFrom (now (section .entry)) bits (first .0)) (to - from) from to (now (values .entry)) (now (values .exit)) (now (presence .entry)) (now (presence .exit)) ⌝ }
+    ensures { λ _. ⌜ NumbersWritten packing (now (section .entry)) bits (first .0) from to (lent values presence) (left values presence) ⌝ }
     ensures { λ r. ⌜ r .0 ≡ first .0 + (to - from) * bits ⌝ }
 {
     let pairs = bits::pairs_in(section.len(), first, bits, to - from);
@@ -105,9 +101,8 @@ pub fn fill_all(
     values: &mut [f64],
     presence: &mut [u8],
 )
-    requires { ⌜ (length (now presence) ≡ length (now values)) × (length (now values) ≤ 16777216) × (bits ≤ 31) ⌝ }
-    ensures { λ _. ⌜ now (values .exit) ≡ row (doubleAt packing (simpleInteger (now (section .entry)) bits) (λ _. 1) (λ i. i)) (length (now (values .entry))) ⌝ }
-    ensures { λ _. ⌜ now (presence .exit) ≡ row (λ _. 1) (length (now (values .entry))) ⌝ }
+    requires { ⌜ Room (now values) (now presence) × (bits ≤ 31) ⌝ }
+    ensures { λ _. ⌜ Filled everyPoint packing (simpleInteger (now (section .entry)) bits) (lent values presence) (left values presence) ⌝ }
 {
     let first = octets::first_bit(OctetNumber(6));
     let n = values.len();
@@ -123,10 +118,8 @@ pub fn fill_marked(
     values: &mut [f64],
     presence: &mut [u8],
 )
-    requires { ⌜ (length (now presence) ≡ length (now values)) × (length (now values) ≤ 16777216) × (bits ≤ 31) ⌝ }
-    requires { ⌜ length (now values) ≤ 8 * length (now bitmap) ⌝ }
-    ensures { λ _. ⌜ now (values .exit) ≡ row (doubleAt packing (simpleInteger (now (section .entry)) bits) (bitAt (now (bitmap .entry))) (onesBefore (now (bitmap .entry)))) (length (now (values .entry))) ⌝ }
-    ensures { λ _. ⌜ now (presence .exit) ≡ row (bitAt (now (bitmap .entry))) (length (now (values .entry))) ⌝ }
+    requires { ⌜ MarkedRoom (now bitmap) (now values) (now presence) × (bits ≤ 31) ⌝ }
+    ensures { λ _. ⌜ Filled (marked (now (bitmap .entry))) packing (simpleInteger (now (section .entry)) bits) (lent values presence) (left values presence) ⌝ }
 {
     let mut at = octets::first_bit(OctetNumber(6));
     let mut i: usize = 0;

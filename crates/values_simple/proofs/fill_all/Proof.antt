@@ -2,7 +2,7 @@
 use mathlib.Core.Path.{refl}
 use native.Mathlib.Omega.{arith}
 use borrow.Author.Needs.{needs}
-use Rattle.values_points.proofs.Laws.{written-past}
+use Rattle.values_points.specs.Written.{everyPoint}
 use Rattle.values_integers.specs.Integers.{simpleInteger}
 use Rattle.values_simple.proofs.Stretches.{written-rows}
 use Rattle.values_simple.proofs.fill_all.Statement.{statement}
@@ -24,8 +24,8 @@ returns : tie.Need-returns
 returns c =
     let b = c .before .before .before .before .before .before .before in
     let a = b .before .before .before .before .args in
-    written-rows (λ _. 1) (λ i. i) (λ i. refl) (a .packing) (simpleInteger (a .section .now) (a .bits)) refl
-    (written-past (rw (b .first-bit .ensures) at (c .before .before .before .before .fill-present .ensures .0))) refl (omega arith)
+    written-rows everyPoint (λ i. refl) (a .packing) (simpleInteger (a .section .now) (a .bits)) refl
+    (rw (b .first-bit .ensures) at (c .before .before .before .before .fill-present .ensures .0 .past)) refl (omega arith)
 
 pub fill-all-spec : {M : Type 1} → statement M
 fill-all-spec =

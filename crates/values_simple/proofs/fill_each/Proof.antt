@@ -6,6 +6,7 @@ use borrow.Author.Needs.{needs}
 use lib.ListN.{length, length-set}
 use Rattle.values_simple.specs.Simple.{numbersFrom}
 use Rattle.values_simple.proofs.Laws.{number-here, next-place}
+use Rattle.values_points.specs.Written.{runs}
 use Rattle.values_points.proofs.Present.{WrittenAll, all-none, all-more}
 use Rattle.values_simple.proofs.fill_each.Statement.{statement}
 use Rattle.values_simple.proofs.fill_each.Tie as tie
@@ -17,7 +18,7 @@ Inv-loop section bits packing values₀ presence₀ from to at₀ i₀ values pr
     × (length presence ≡ length presence₀)
     × (at .0 ≡ at₀ .0 + (i - from) * bits)
     × (at .0 ≤ at₀ .0 + i * 31)
-    × WrittenAll packing (numbersFrom section bits (at₀ .0)) from i values₀ values presence₀ presence
+    × WrittenAll packing (numbersFrom section bits (at₀ .0)) from i (runs values₀ presence₀) (runs values presence)
 
 abbrev μ-loop : tie.MeasureT-loop
 μ-loop section bits packing values₀ presence₀ from to at₀ i₀ values presence at i = to - i
@@ -31,7 +32,7 @@ loop-holds c =
       refl,
       rw none (omega arith),
       omega arith,
-      all-none (a .packing) (numbersFrom (a .section .now) (a .bits) (a .first .0)) (a .from) (a .values .now) (a .presence .now) (omega arith),
+      all-none (a .packing) (numbersFrom (a .section .now) (a .bits) (a .first .0)) (a .from) (runs (a .values .now) (a .presence .now)) (omega arith),
     )
 
 take-requires : tie.Need-take-requires Inv-loop μ-loop
@@ -63,7 +64,7 @@ loop-again c =
       omega arith,
       length-set (l .values) (l .i) _ ∙ l .inv .1,
       length-set (l .presence) (l .i) _ ∙ l .inv .2,
-      t .take .ensures .1 ∙ next-place (a .first .0) (a .from) (l .i) (a .bits) (l .at .0) (l .inv .5 .onward) (l .inv .3),
+      t .take .ensures .1 ∙ next-place (a .first .0) (a .from) (l .i) (a .bits) (l .at .0) (l .inv .5 .past .onward) (l .inv .3),
       omega arith,
       all-more (a .packing) (numbersFrom (a .section .now) (a .bits) (a .first .0)) (l .inv .5) (omega arith)
           (t .take .ensures .0 ∙ number-here (a .section .now) (a .bits) (a .first .0) (l .at .0) (l .i - a .from) (l .inv .3)) (c .before .rebuild .ensures),

@@ -6,10 +6,10 @@ use native.Mathlib.Omega.{arith}
 use borrow.Author.Needs.{needs}
 use lib.ListN.{length}
 use Rattle.octets.specs.Places.{firstBit}
-use Rattle.bits.specs.Bits.{bitAt}
 use Rattle.section_6.specs.Presence.{onesBefore}
 use Rattle.section_6.proofs.Laws.{ones-more}
-use Rattle.values_points.proofs.Laws.{WrittenPast, written-past, written-none}
+use Rattle.values_points.specs.Written.{marked, runs, WrittenPast}
+use Rattle.values_points.proofs.Laws.{written-none}
 use Rattle.values_integers.specs.Integers.{simpleInteger}
 use Rattle.values_simple.specs.Simple.{numbersFrom}
 use Rattle.values_simple.proofs.Laws.{numbers-later, place-behind, bits-in-all}
@@ -24,7 +24,7 @@ Inv-loop section bitmap bits packing values₀ presence₀ at₀ i₀ values pre
     × (length presence ≡ length presence₀)
     × (at .0 ≡ firstBit 6 + onesBefore bitmap i * bits)
     × (at .0 ≤ 40 + i * 31)
-    × WrittenPast (bitAt bitmap) (onesBefore bitmap) packing (simpleInteger section bits) (onesBefore bitmap i) 0 i values₀ values presence₀ presence
+    × WrittenPast (marked bitmap) packing (simpleInteger section bits) (onesBefore bitmap i) 0 i (runs values₀ presence₀) (runs values presence)
 
 abbrev μ-loop : tie.MeasureT-loop
 μ-loop section bitmap bits packing values₀ presence₀ at₀ i₀ values presence at i = length values₀ - i
@@ -41,8 +41,8 @@ loop-holds c =
       refl,
       omega arith,
       omega arith,
-      written-past
-          (written-none (bitAt (a .bitmap .now)) (onesBefore (a .bitmap .now)) (ones-more (a .bitmap .now)) (a .packing) (simpleInteger (a .section .now) (a .bits)) 0 (a .values .now) (a .presence .now) (omega arith)),
+      written-none (marked (a .bitmap .now)) (ones-more (a .bitmap .now)) (a .packing) (simpleInteger (a .section .now) (a .bits)) 0
+          (runs (a .values .now) (a .presence .now)) (omega arith) .past,
     )
 
 present-until-requires : tie.Need-present-until-requires Inv-loop μ-loop
@@ -67,7 +67,7 @@ loop-less : tie.Need-loop-less Inv-loop μ-loop
 loop-less c =
     let u = c .before .before .before .before .before .before .before .before .before .before .before .before .before .before in
     let cleared = c .before .before .before .before .clear-missing .ensures in
-    omega (arith, cleared .within, turn-further (u .present-until .ensures) cleared (omega arith) (omega arith))
+    omega (arith, cleared .past .within, turn-further (u .present-until .ensures) cleared (omega arith) (omega arith))
 
 loop-again : tie.Need-loop-again Inv-loop μ-loop
 loop-again c =
@@ -82,11 +82,11 @@ loop-again c =
     let filled = c .before .before .before .before .before .before .before .before .before .before .before .fill-present in
     let same = numbers-later (a .section .now) (a .bits) (firstBit 6) (l .at .0) (ones (l .i)) (l .inv .3) in
     let turn = marked-turn (a .bitmap .now) (a .packing) (simpleInteger (a .section .now) (a .bits)) (numbersFrom (a .section .now) (a .bits) (l .at .0)) (l .inv .5) (filled .ensures .0) (stretch .present) same cleared in (
-      omega (arith, cleared .within),
+      omega (arith, cleared .past .within),
       omega arith,
       omega arith,
       filled .ensures .1 ∙ place-behind (firstBit 6) (ones (l .i)) (until - l .i) (ones next) (a .bits) (l .at .0) (l .inv .3) (turn .0),
-      omega (arith, filled .ensures .1, stretch .onward, cleared .onward, stretch-bits u),
+      omega (arith, filled .ensures .1, stretch .onward, cleared .past .onward, stretch-bits u),
       turn .1,
     )
 
@@ -101,7 +101,7 @@ unfolding onesBefore
 returns c =
     let a = c .before .before .before .before .before .before .before .args in
     let bitmap = a .bitmap .now in
-    written-rows (bitAt bitmap) (onesBefore bitmap) (ones-more bitmap) (a .packing) (simpleInteger (a .section .now) (a .bits)) refl (c .before .loop .inv .5) (omega arith) (omega arith)
+    written-rows (marked bitmap) (ones-more bitmap) (a .packing) (simpleInteger (a .section .now) (a .bits)) refl (c .before .loop .inv .5) (omega arith) (omega arith)
 
 pub fill-marked-spec : {M : Type 1} → statement M
 fill-marked-spec =

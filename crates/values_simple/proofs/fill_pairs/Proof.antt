@@ -8,6 +8,7 @@ use borrow.Author.Needs.{needs}
 use lib.ListN.{length, length-set}
 use Rattle.values_simple.specs.Simple.{numbersFrom}
 use Rattle.values_simple.proofs.Laws.{number-here, place-behind, next-place}
+use Rattle.values_points.specs.Written.{runs}
 use Rattle.values_points.proofs.Present.{WrittenAll, all-none, all-more, all-lengths}
 use Rattle.values_simple.proofs.fill_pairs.Statement.{statement}
 use Rattle.values_simple.proofs.fill_pairs.Tie as tie
@@ -21,7 +22,7 @@ Inv-loop section bits packing values₀ presence₀ from pairs end at₀ i₀ va
     × (length presence ≡ length presence₀)
     × (at .0 ≡ at₀ .0 + (i - from) * bits)
     × (at .0 ≤ at₀ .0 + i * 28)
-    × WrittenAll packing (numbersFrom section bits (at₀ .0)) from i values₀ values presence₀ presence
+    × WrittenAll packing (numbersFrom section bits (at₀ .0)) from i (runs values₀ presence₀) (runs values presence)
 
 abbrev μ-loop : tie.MeasureT-loop
 μ-loop section bits packing values₀ presence₀ from pairs end at₀ i₀ values presence at i = from + 2 * pairs - i
@@ -43,7 +44,7 @@ loop-holds c =
       refl,
       rw none (omega arith),
       omega arith,
-      all-none (a .packing) (numbersFrom (a .section .now) (a .bits) (a .first .0)) (a .from) (a .values .now) (a .presence .now) (omega arith),
+      all-none (a .packing) (numbersFrom (a .section .now) (a .bits) (a .first .0)) (a .from) (runs (a .values .now) (a .presence .now)) (omega arith),
     )
 
 take-pair-requires : tie.Need-take-pair-requires Inv-loop μ-loop
@@ -124,7 +125,7 @@ returns c =
     let a = c .before .before .before .before .before .args in
     let all : l .i ≡ a .from + 2 * a .pairs = omega arith in
     let count : a .from + 2 * a .pairs - a .from ≡ 2 * a .pairs = omega arith in
-    (rw (all, count) at (l .inv .7), rw (all, count) at (l .inv .5))
+    (rw all at (l .inv .7), rw (all, count) at (l .inv .5))
 
 pub fill-pairs-spec : {M : Type 1} → statement M
 fill-pairs-spec =

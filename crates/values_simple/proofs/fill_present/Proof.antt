@@ -1,5 +1,5 @@
 -- `values_simple::fill_present` meets its contract: the pairs are written, and then the points behind them one by one.
-use mathlib.Core.Path.{_∙_}
+use mathlib.Core.Path.{_≡_, _∙_}
 use Prim.Native.Nat.{_+_, _-_, _*_, _≤_}
 use native.Mathlib.Omega.{arith}
 use borrow.Author.Needs.{needs}
@@ -49,7 +49,7 @@ paired-bits c =
 fill-pairs-requires : tie.Need-fill-pairs-requires
 fill-pairs-requires c κs =
     let p = can-pair (c .before .before .before) in
-    ((omega arith, omega arith, omega arith), (omega (arith, p .few), p .narrow (omega arith), p .inside (omega arith)))
+    (((omega arith, omega arith), omega arith), (omega (arith, p .few), p .narrow (omega arith), p .inside (omega arith)))
 
 mul-rest : tie.Need-mul-rest
 mul-rest c = omega (arith, can-pair (c .before .before .before .before .before .before .before .before) .few)
@@ -62,7 +62,7 @@ fill-each-requires-2 c κs =
     let filled = c .before .before .before .before .before .before in
     let k = filled .before .before .before in
     let p = can-pair (k .before) in
-    ((omega arith, omega arith, omega (arith, filled .fill-pairs .ensures .1, paired-bits k, p .few)), (omega (arith, p .few), omega arith, omega arith))
+    (((omega arith, omega arith), omega (arith, filled .fill-pairs .ensures .1, paired-bits k, p .few)), (omega (arith, p .few), omega arith, omega arith))
 
 same-length-3 : tie.Need-same-length-3
 same-length-3 c = search needs
@@ -78,8 +78,9 @@ returns-2 c =
     let a = p .before .before .before .before .args in
     let paired = 2 * p .pairs-in .result in
     let next = pairs .fill-pairs .result .0 in
-    let numbers = numbersFrom (a .section .now) (a .bits) in (
-      all-then (a .packing) (numbers (a .first .0)) (numbers next) (pairs .fill-pairs .ensures .0) (each .fill-each2 .ensures .0)
+    let numbers = numbersFrom (a .section .now) (a .bits) in
+    let count : a .from + paired - a .from ≡ paired = omega arith in (
+      all-then (a .packing) (numbers (a .first .0)) (numbers next) (rw count at (pairs .fill-pairs .ensures .0)) (each .fill-each2 .ensures .0)
           (numbers-later (a .section .now) (a .bits) (a .first .0) next paired (pairs .fill-pairs .ensures .1)),
       each .fill-each2 .ensures .1
           ∙ place-behind (a .first .0) paired (a .to - (a .from + paired)) (a .to - a .from) (a .bits) next (pairs .fill-pairs .ensures .1)
