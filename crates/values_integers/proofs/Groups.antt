@@ -11,9 +11,9 @@ use Rattle.section_5_groups.specs.declared.Grouping.{Grouping}
 use Rattle.section_7_layout.specs.declared.Layout.{Layout}
 use Rattle.section_7.specs.Packing.{valuesBefore}
 use Rattle.section_7.proofs.Laws.{values-more, values-mono}
-use Rattle.values_integers.specs.Integers.{Stands, groupAmong, groupOf, packedIn, referenceOf, storedAt}
+use Rattle.values_integers.specs.Integers.{InGroup, groupAmong, groupOf, packedIn, referenceOf, storedAt}
 
-module _ (run : List ℕ) (at : Layout) (g : Grouping) {m i j : ℕ} (s : Stands run at g m i j) where
+module _ (run : List ℕ) (at : Layout) (g : Grouping) {m i j : ℕ} (s : InGroup run at g m i j) where
   -- A value lies behind the values of the groups up to its own, and before those of the next.
   not-before : (n : ℕ) → n ≤ i → valuesBefore run at g n ≤ m
   not-before n h = omega (arith, values-mono run at g {i = n} i h, s .behind)

@@ -25,7 +25,7 @@ abbrev pub simpleInteger : List ℕ → ℕ → ℕ → ℕ
 simpleInteger run bits m = bitsAt run (firstBit 6 + m * bits) bits
 
 -- Complex packing: value m is number j of group i where the groups before it hold m - j values.
-pub record Stands (run : List ℕ) (at : Layout) (g : Grouping) (m i j : ℕ) : Type 0 where
+pub record InGroup (run : List ℕ) (at : Layout) (g : Grouping) (m i j : ℕ) : Type 0 where
   pub within : i < g .groups
   pub inside : j < lengthOf run at g i
   pub behind : m ≡ valuesBefore run at g i + j
