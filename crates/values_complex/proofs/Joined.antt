@@ -16,8 +16,8 @@ use Rattle.section_7.specs.Packing.{valuesBefore, bitsBefore}
 use Rattle.section_7.proofs.Laws.{values-more, values-mono}
 use Rattle.values_group.specs.declared.Worked as declared
 use Rattle.values_group.specs.declared.Worked.the-variants as Worked
-use Rattle.values_group.specs.Group.{mostX, next, packedNumber, workedBy, isKept, lastOf, integerBy}
-use Rattle.values_integers.specs.Integers.{Stands, referenceOf, storedAt, integer, areInRange}
+use Rattle.values_group.specs.Group.{mostX, next, packedNumber, workedBy, isKept, lastOf, integerFrom}
+use Rattle.values_integers.specs.Integers.{InGroup, referenceOf, storedAt, integer, areInRange}
 use Rattle.values_integers.specs.Worked.{raisedBy, loweredBy, worked}
 use Rattle.values_integers.proofs.Groups.{stands-stored}
 use Rattle.values_integers.proofs.Joined.{worked-sound, worked-range, worked-out}
@@ -63,7 +63,7 @@ module _ (run : List ℕ) (g : Groups) where
       let s = skips (before i) (lengthAt i) in
       let skip : ℕ = skipped (before i) (lengthAt i) in
       let value : before i - 2 + k + 2 ≡ before i + (skip + k) = omega (arith, s .toTwo (omega arith)) in
-      let stands : Stands run (g .layout) (g .grouping) (before i - 2 + k + 2) i (skip + k) = record { within = h; inside = omega arith; behind = value } in
+      let stands : InGroup run (g .layout) (g .grouping) (before i - 2 + k + 2) i (skip + k) = record { within = h; inside = omega arith; behind = value } in
       ap (λ (place : ℕ). bitsAt run place (widthOf run (g .layout) (g .grouping) i) + referenceOf run (g .layout) (g .bits) i) (placed (firstBit (g .layout .packed .0)) (bitsBefore run (g .layout) (g .grouping) i) skip k (widthOf run (g .layout) (g .grouping) i))
       ∙ sym (stands-stored run (g .layout) (g .grouping) stands (g .bits))
     where
@@ -133,7 +133,7 @@ module _ (run : List ℕ) (g : Groups) where
           first-kept (leb-true (g .differencing .first) mostX one) (leb-true (g .differencing .second) mostX two)
 
       -- The integers of group i, as they are written, are the field's.
-      pub group-field : (i x y : ℕ) → i < g .grouping .groups → workedIn (before i - 2) ≡ Worked.Kept x y → (k : ℕ) → k < groupAt run g i .count → integerBy run (groupAt run g i) x y k ≡ sizeIn run g (before i - 2 + 2 + k)
+      pub group-field : (i x y : ℕ) → i < g .grouping .groups → workedIn (before i - 2) ≡ Worked.Kept x y → (k : ℕ) → k < groupAt run g i .count → integerFrom run (groupAt run g i) x y k ≡ sizeIn run g (before i - 2 + 2 + k)
       group-field i x y h kept k l =
           let m : ℕ = before i - 2 + suc k in
           let last : workedBy run (groupAt run g i) (Worked.Kept x y) (suc k) ≡ workedIn m =

@@ -9,14 +9,13 @@ use lib.Dec.{ltb}
 use lib.ListN.{length}
 use lib.Ieee.{Float}
 use Rattle.octets.proofs.Cases.{split}
-use Rattle.laws_rows.specs.Rows.{row}
 use Rattle.laws_rows.proofs.Laws.{filled-length, start-end}
 use Rattle.bits.specs.Bits.{bitAt}
 use Rattle.section_6.specs.Presence.{onesBefore}
 use Rattle.section_6.proofs.Laws.{ones-more}
 use Rattle.doubles.specs.declared.Packing.{Packing}
 use Rattle.values_points.specs.Points.{doubleAt}
-use Rattle.values_points.specs.Written.{Cleared, Written}
+use Rattle.values_points.specs.Written.{Marks, marked, Runs, Cleared, Written, Filled}
 use Rattle.values_points.proofs.Laws.{rank-mono}
 use Rattle.values_points.proofs.Missing.{cleared-filled}
 use Rattle.values_group.specs.declared.Reached.{Reached}
@@ -33,32 +32,34 @@ ones-none bitmap = refl
 
 -- Before a later point no fewer are present.
 ones-mono : (bitmap : List ℕ) {i : ℕ} (j : ℕ) → i ≤ j → onesBefore bitmap i ≤ onesBefore bitmap j
-ones-mono bitmap {i} j h = rank-mono (bitAt bitmap) (onesBefore bitmap) (ones-more bitmap) {i = i} j h
+ones-mono bitmap {i} j h = rank-mono (marked bitmap) (ones-more bitmap) {i = i} j h
 
 -- Of two points that are present at least, one is left behind the first.
-pub second-left : {mark rank : ℕ → ℕ} {p : Packing} {x : ℕ → ℕ} {next : ℕ} {values written : List Float} {presence marked : List ℕ} → Written mark rank p x 1 0 next values written presence marked →
-    rank 0 ≡ 0 → 2 ≤ rank (length values) → rank next < rank (length written)
-second-left {mark} {rank} {p} {x} {next} {values} w none two =
-    let same = ap length (w .doubles) ∙ filled-length (doubleAt p x mark (λ i. rank i - rank 0)) 0 (next - 0) values in
-    omega (arith, w .used, ap rank same)
+pub second-left : {m : Marks} {p : Packing} {x : ℕ → ℕ} {next : ℕ} {a b : Runs} → Written m p x 1 0 next a b →
+    m .rank 0 ≡ 0 → 2 ≤ m .rank (length (a .doubles)) → m .rank next < m .rank (length (b .doubles))
+second-left {m} {p} {x} {next} {a} w none two =
+    let same = ap length (w .past .doubles) ∙ filled-length (doubleAt p x (m .mark) (λ i. m .rank i - m .rank 0)) 0 (next - 0) (a .doubles) in
+    omega (arith, w .past .used, ap (m .rank) same)
 
 module _ (run : List ℕ) (g : Groups) (sound : Sound run g) where
-  module _ (all : areInRange (integerIn run g) (valuesIn run g) ≡ true) {bitmap : List ℕ} {p : Packing} {values : List Float} {presence : List ℕ} {i : ℕ} {reached : Reached} {start : Start} {written : List Float} {marked : List ℕ} (s : Passed run g (bitAt bitmap) (onesBefore bitmap) p values presence i reached start written marked) (past : g .grouping .groups ≤ i) where
-    -- Behind the last value no point is present, so to clear what is missing is to reach the end, and both runs are rows.
-    pub all-cleared : {next : ℕ} {after : List Float} {marked' : List ℕ} → Cleared bitmap (reached .point) next written after marked marked' →
-        (n : ℕ) → n ≡ length values → n ≡ length presence → valuesIn run g ≡ onesBefore bitmap n →
-        (after ≡ row (doubleAt p (sizeIn run g) (bitAt bitmap) (onesBefore bitmap)) n) × (marked' ≡ row (bitAt bitmap) n)
-    all-cleared {next} {after} {marked'} c n whole wholeMarks given =
+  module _ (all : areInRange (integerIn run g) (valuesIn run g) ≡ true) {bitmap : List ℕ} {p : Packing} {a b : Runs} {i : ℕ} {reached : Reached} {start : Start}
+      (s : Passed run g (marked bitmap) p a i reached start b) (past : g .grouping .groups ≤ i) where
+    -- Behind the last value no point is present, so to clear what is missing is to reach the end, and both runs are filled.
+    pub all-cleared : {next : ℕ} {c : Runs} → Cleared bitmap (reached .point) next b c →
+        (before : Runs) → length (before .doubles) ≡ length (a .doubles) → length (before .doubles) ≡ length (a .marks) →
+        valuesIn run g ≡ onesBefore bitmap (length (before .doubles)) → Filled (marked bitmap) p (sizeIn run g) before c
+    all-cleared {next} {c} cleared before whole wholeMarks given =
+        let n = length (before .doubles) in
         let double : ℕ → Float = doubleAt p (sizeIn run g) (bitAt bitmap) (onesBefore bitmap) in
-        let both = cleared-filled p (sizeIn run g) values presence c (s .doubles) (s .marks) in
-        let same : length written ≡ n = ap length (s .doubles) ∙ filled-length double 0 (reached .point) values ∙ sym whole in
+        let both = cleared-filled p (sizeIn run g) (a .doubles) (a .marks) cleared (s .doubles) (s .marks) in
+        let same : length (b .doubles) ≡ n = ap length (s .doubles) ∙ filled-length double 0 (reached .point) (a .doubles) ∙ sym whole in
         let end : next ≡ n =
         split (ltb next n)
-        (λ before.
-        let here = ltb-true next n before in
-        let present : bitAt bitmap next ≡ 1 = c .present (omega arith) in
-        absurd (omega (arith, all-written run g sound all s past, ones-more bitmap next, ones-mono bitmap {i = reached .point} next (c .onward), ones-mono bitmap {i = next + 1} n (omega arith))))
-        (λ behind. omega (arith, ltb-false next n behind, c .within)) in (
-          start-end double next values after (both .0) n end whole,
-          start-end (bitAt bitmap) next presence marked' (both .1) n end wholeMarks,
+        (λ inside.
+        let here = ltb-true next n inside in
+        let present : bitAt bitmap next ≡ 1 = cleared .present (omega arith) in
+        absurd (omega (arith, all-written run g sound all s past, ones-more bitmap next, ones-mono bitmap {i = reached .point} next (cleared .past .onward), ones-mono bitmap {i = next + 1} n (omega arith))))
+        (λ behind. omega (arith, ltb-false next n behind, cleared .past .within)) in (
+          start-end double next (a .doubles) (c .doubles) (both .0) n end whole,
+          start-end (bitAt bitmap) next (a .marks) (c .marks) (both .1) n end wholeMarks,
         )

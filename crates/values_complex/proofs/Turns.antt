@@ -4,7 +4,6 @@ use mathlib.Core.List.{List}
 use mathlib.Core.Path.{_≡_, sym, ap, _∙_}
 use Prim.Native.Nat.{ℕ, _+_, _≤_, _<_}
 use native.Mathlib.Omega.{arith}
-use lib.Ieee.{Float}
 use lib.ListN.{length}
 use Rattle.doubles.specs.declared.Packing.{Packing}
 use Rattle.values_group.specs.Group.{Limits, workedBy}
@@ -15,6 +14,7 @@ use Rattle.values_group.specs.declared.Worked.the-variants as Worked
 use Rattle.values_integers.proofs.Joined.{worked-sound}
 use Rattle.values_integers.specs.Integers.{storedAt}
 use Rattle.values_points.specs.Points.{doubleAt}
+use Rattle.values_points.specs.Written.{Marks, Runs}
 use Rattle.laws_rows.proofs.Laws.{filled-length}
 use Rattle.values_complex.proofs.Bounds.{group-limits}
 use Rattle.values_complex.proofs.Joined.{group-ends, next-start, workedIn, group-passed}
@@ -37,12 +37,14 @@ module _ (run : List ℕ) (g : Groups) {i x before : ℕ} (kept : workedIn run g
 
 module _ (run : List ℕ) (g : Groups) where
   -- The runs are as long as they were.
-  pub passed-lengths : {mark rank : ℕ → ℕ} {p : Packing} {values : List Float} {presence : List ℕ} {i : ℕ} {reached : Reached} {start : Start} {written : List Float} {marked : List ℕ} →
-      Passed run g mark rank p values presence i reached start written marked → (length written ≡ length values) × (length marked ≡ length presence)
-  passed-lengths {mark} {rank} {p} {values} {presence} {i} {reached} s =
-      (ap length (s .doubles) ∙ filled-length (doubleAt p (sizeIn run g) mark rank) 0 (reached .point) values, ap length (s .marks) ∙ filled-length mark 0 (reached .point) presence)
+  pub passed-lengths : {m : Marks} {p : Packing} {a b : Runs} {i : ℕ} {reached : Reached} {start : Start} →
+      Passed run g m p a i reached start b → (length (b .doubles) ≡ length (a .doubles)) × (length (b .marks) ≡ length (a .marks))
+  passed-lengths {m} {p} {a} {b} {i} {reached} s = (
+    ap length (s .doubles) ∙ filled-length (doubleAt p (sizeIn run g) (m .mark) (m .rank)) 0 (reached .point) (a .doubles),
+    ap length (s .marks) ∙ filled-length (m .mark) 0 (reached .point) (a .marks),
+  )
 
   -- The next group's integers and those before it are no more than the field's values.
-  pub next-room : Sound run g → {mark rank : ℕ → ℕ} {p : Packing} {values : List Float} {presence : List ℕ} {i : ℕ} {reached : Reached} {start : Start} {written : List Float} {marked : List ℕ} →
-      Passed run g mark rank p values presence i reached start written marked → i < g .grouping .groups → rank (reached .point) + groupAt run g i .count ≤ valuesIn run g
+  pub next-room : Sound run g → {m : Marks} {p : Packing} {a b : Runs} {i : ℕ} {reached : Reached} {start : Start} →
+      Passed run g m p a i reached start b → i < g .grouping .groups → m .rank (reached .point) + groupAt run g i .count ≤ valuesIn run g
   next-room sound {i = i} s within = omega (arith, s .used, group-ends run g i, next-start run g sound i within, sound .twoValues)

@@ -10,7 +10,7 @@ use Rattle.section_5_groups.specs.declared.Grouping.{Grouping}
 use Rattle.section_7_layout.specs.Runs.{differencingAt, layoutOf, widthOf, lengthOf, Limited}
 use Rattle.section_7.specs.Packing.{valuesBefore, bitsBefore, areSound}
 use Rattle.values_group.specs.declared.Group.{Group}
-use Rattle.values_integers.specs.Integers.{referenceOf, storedAt, integer}
+use Rattle.values_integers.specs.Integers.{referenceOf, storedAt, integer, areInRange}
 use Rattle.values_integers.specs.Worked.{raisedBy, loweredBy}
 use Rattle.values_complex.specs.declared.Groups.{Groups}
 use Rattle.values_complex.specs.declared.Start.{Start}
@@ -30,6 +30,10 @@ module _ (run : List ℕ) (g : Groups) where
   -- An integer in its range is its own size.
   abbrev pub sizeIn : ℕ → ℕ
   sizeIn m = natAbs (integerIn m)
+
+  -- Every integer of the field is in its range.
+  abbrev pub AllInRange : Type 0
+  AllInRange = areInRange integerIn valuesIn ≡ true
 
 -- The packed numbers of the first two values are there and not used. Where so many values stand before a group of such a length, that many of
 -- its own are among the first two.

@@ -1,17 +1,14 @@
 // Complex packing with second differences (5.3): the groups of a field one after the other, judged in a first pass that writes nothing, and
 // written in a second one.
 ghost use mathlib.Core.Path.{_≡_};
-ghost use mathlib.Core.Bool.{true};
 ghost use Prim.Native.Nat.{_+_, _*_, _≤_, _<_};
 ghost use lib.ListN.{length};
-ghost use Rattle.laws_rows.specs.Rows.{row};
-ghost use Rattle.bits.specs.Bits.{bitAt};
-ghost use Rattle.values_points.specs.Points.{doubleAt};
+ghost use Rattle.values_points.specs.Written.{everyPoint, marked, lent, left, Room, MarkedRoom, Filled};
 ghost use Rattle.section_6.specs.Presence.{onesBefore};
 ghost use Rattle.section_7_layout.specs.Runs.{Limited};
 ghost use Rattle.values_integers.specs.Worked.{raisedBy, loweredBy};
 ghost use Rattle.values_integers.specs.Integers.{areInRange};
-ghost use Rattle.values_complex.specs.Complex.{groupsIn, skipped, startOf, groupAt, valuesIn, integerIn, sizeIn, Sound};
+ghost use Rattle.values_complex.specs.Complex.{groupsIn, skipped, startOf, groupAt, valuesIn, integerIn, sizeIn, AllInRange, Sound};
 use doubles::Packing;
 use octets::BitPlace;
 use octets::FilePlace;
@@ -167,11 +164,10 @@ pub fn fill_all(
     presence: &mut [u8],
 )
     requires { ⌜ Sound (now section) groups ⌝ }
-    requires { ⌜ areInRange (integerIn (now section) groups) (valuesIn (now section) groups) ≡ true ⌝ }
-    requires { ⌜ (length (now presence) ≡ length (now values)) × (length (now values) ≤ 16777216) ⌝ }
+    requires { ⌜ AllInRange (now section) groups ⌝ }
+    requires { ⌜ Room (now values) (now presence) ⌝ }
     requires { ⌜ valuesIn (now section) groups ≡ length (now values) ⌝ }
-    ensures { λ _. ⌜ now (values .exit) ≡ row (doubleAt packing (sizeIn (now (section .entry)) groups) (λ _. 1) (λ i. i)) (length (now (values .entry))) ⌝ }
-    ensures { λ _. ⌜ now (presence .exit) ≡ row (λ _. 1) (length (now (values .entry))) ⌝ }
+    ensures { λ _. ⌜ Filled everyPoint packing (sizeIn (now (section .entry)) groups) (lent values presence) (left values presence) ⌝ }
 {
     let layout = groups.layout;
     let grouping = groups.grouping;
@@ -210,11 +206,10 @@ pub fn fill_marked(
     presence: &mut [u8],
 )
     requires { ⌜ Sound (now section) groups ⌝ }
-    requires { ⌜ areInRange (integerIn (now section) groups) (valuesIn (now section) groups) ≡ true ⌝ }
-    requires { ⌜ (length (now presence) ≡ length (now values)) × (length (now values) ≤ 16777216) × (length (now values) ≤ 8 * length (now bitmap)) ⌝ }
+    requires { ⌜ AllInRange (now section) groups ⌝ }
+    requires { ⌜ MarkedRoom (now bitmap) (now values) (now presence) ⌝ }
     requires { ⌜ valuesIn (now section) groups ≡ onesBefore (now bitmap) (length (now values)) ⌝ }
-    ensures { λ _. ⌜ now (values .exit) ≡ row (doubleAt packing (sizeIn (now (section .entry)) groups) (bitAt (now (bitmap .entry))) (onesBefore (now (bitmap .entry)))) (length (now (values .entry))) ⌝ }
-    ensures { λ _. ⌜ now (presence .exit) ≡ row (bitAt (now (bitmap .entry))) (length (now (values .entry))) ⌝ }
+    ensures { λ _. ⌜ Filled (marked (now (bitmap .entry))) packing (sizeIn (now (section .entry)) groups) (lent values presence) (left values presence) ⌝ }
 {
     let layout = groups.layout;
     let grouping = groups.grouping;

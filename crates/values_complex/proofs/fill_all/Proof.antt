@@ -1,12 +1,11 @@
 -- `values_complex::fill_all` meets its contract. The invariant: i groups are passed in the runs that came in. The loop knows those only by what the first
 -- two values have made of them, so it is said of any runs of which they make these.
 use mathlib.Core.Path.{refl}
-use mathlib.Core.List.{List}
-use Prim.Native.Nat.{ℕ, _-_}
+use Prim.Native.Nat.{_-_}
 use native.Mathlib.Omega.{arith}
 use borrow.Author.Needs.{needs}
-use lib.Ieee.{Float}
 use lib.ListN.{length-set}
+use Rattle.values_points.specs.Written.{Runs, runs}
 use Rattle.values_complex.proofs.Bounds.{starts-bounded}
 use Rattle.values_complex.proofs.Passed.{next-kept, passed-more}
 use Rattle.values_complex.proofs.All.{PassedAll, all-begun, all-room, all-rows}
@@ -16,8 +15,7 @@ use Rattle.values_complex.proofs.fill_all.Tie as tie
 
 abbrev Inv-loop : tie.InvT-loop
 Inv-loop section groups packing values₀ presence₀ grouping reached₀ start₀ i₀ values presence reached start i =
-    (doubles : List Float) (marks : List ℕ) →
-    PassedAll section groups packing doubles marks 0 reached₀ start₀ values₀ presence₀ → PassedAll section groups packing doubles marks i reached start values presence
+    (a : Runs) → PassedAll section groups packing a 0 reached₀ start₀ (runs values₀ presence₀) → PassedAll section groups packing a i reached start (runs values presence)
 
 abbrev μ-loop : tie.MeasureT-loop
 μ-loop section groups packing values₀ presence₀ grouping reached₀ start₀ i₀ values presence reached start i = groups .grouping .groups - i
@@ -26,11 +24,11 @@ abbrev μ-loop : tie.MeasureT-loop
 passed : (c : tie.At-loop Inv-loop μ-loop) →
     let l = c .loop in
     let a = c .before .before .before .before .before .before .before .before .before .before .before .before .args in
-    PassedAll (a .section .now) (a .groups) (a .packing) (a .values .now) (a .presence .now) (l .i) (l .reached) (l .start) (l .values) (l .presence)
+    PassedAll (a .section .now) (a .groups) (a .packing) (runs (a .values .now) (a .presence .now)) (l .i) (l .reached) (l .start) (runs (l .values) (l .presence))
 passed c =
     let start = c .before .before .before .before .before .before .before .before .before .before .before .before in
     let a = start .args in
-    c .loop .inv (a .values .now) (a .presence .now)
+    c .loop .inv (runs (a .values .now) (a .presence .now))
     (all-begun (a .section .now) (a .groups) (start .pre .0) (start .pre .1 .0) (start .pre .1 .1 .1)
     (c .before .before .before .before .before .rebuild .ensures) (c .before .before .before .before .rebuild2 .ensures) (c .before .first-bit .ensures))
 
@@ -68,7 +66,7 @@ first-bit-requires c κs =
     omega (arith, starts-bounded _ _ sound)
 
 loop-holds : tie.Need-loop-holds Inv-loop μ-loop
-loop-holds c = λ doubles marks begun. begun
+loop-holds c = λ a begun. begun
 
 group-at-requires : tie.Need-group-at-requires Inv-loop μ-loop
 group-at-requires c κs =
@@ -107,8 +105,8 @@ loop-again c =
     let turn = c .before .before .before .before .before .before .before .before .before .before .if1 .taken in
     let met = c .before .before .before .before .before .before .before .before .before .group-at .ensures in
     let filled = c .before .before .before .before .before .fill-all .ensures in
-    λ doubles marks begun.
-    passed-more (a .section .now) (a .groups) (start .pre .0) (start .pre .1 .0) (l .inv doubles marks begun) turn (λ j. refl) (met .1)
+    λ came begun.
+    passed-more (a .section .now) (a .groups) (start .pre .0) (start .pre .1 .0) (l .inv came begun) turn (λ j. refl) (met .1)
     (rw (met .0) at (filled .0)) (rw (met .0) at (filled .1))
 
 same-length : tie.Need-same-length Inv-loop μ-loop

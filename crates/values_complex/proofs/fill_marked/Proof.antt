@@ -1,15 +1,13 @@
--- `values_complex::fill_marked` meets its contract. The invariant: i groups are passed, in runs that were `lent` and `marked` at entry. It has no name for
--- those, so it says that there are such runs, as long as the loop's.
+-- `values_complex::fill_marked` meets its contract. The invariant: i groups are passed, in the runs that came in. It has no name for those, so it says that
+-- there are such runs, as long as the loop's.
 use mathlib.Core.Path.{_≡_, refl, ap}
-use mathlib.Core.List.{List}
-use Prim.Native.Nat.{ℕ, _-_}
+use Prim.Native.Nat.{_-_}
 use native.Mathlib.Omega.{arith}
 use borrow.Author.Needs.{needs}
 use lib.ListN.{length}
-use lib.Ieee.{Float}
-use Rattle.bits.specs.Bits.{bitAt}
 use Rattle.section_6.specs.Presence.{onesBefore}
 use Rattle.section_6.proofs.Laws.{ones-more}
+use Rattle.values_points.specs.Written.{marked, Runs, runs}
 use Rattle.values_complex.proofs.Bounds.{packed-low, starts-bounded}
 use Rattle.values_complex.proofs.Passed.{Passed, next-kept, passed-more, passed-none}
 use Rattle.values_complex.proofs.Marked.{ones-none, second-left, all-cleared}
@@ -19,9 +17,8 @@ use Rattle.values_complex.proofs.fill_marked.Tie as tie
 
 abbrev Inv-loop : tie.InvT-loop
 Inv-loop section bitmap groups packing values₀ presence₀ grouping one two reached₀ start₀ i₀ values presence reached start i =
-    (lent : List Float) × (marked : List ℕ)
-    × (length lent ≡ length values₀) × (length marked ≡ length presence₀) × (length values ≡ length values₀) × (length presence ≡ length presence₀)
-    × Passed section groups (bitAt bitmap) (onesBefore bitmap) packing lent marked i reached start values presence
+    (a : Runs) × (length (a .doubles) ≡ length values₀) × (length (a .marks) ≡ length presence₀) × (length values ≡ length values₀)
+    × (length presence ≡ length presence₀) × Passed section groups (marked bitmap) packing a i reached start (runs values presence)
 
 abbrev μ-loop : tie.MeasureT-loop
 μ-loop section bitmap groups packing values₀ presence₀ grouping one two reached₀ start₀ i₀ values presence reached start i = grouping .groups - i
@@ -37,7 +34,7 @@ Entry c = Begun (c .before .before .before .before .before .before .before .befo
 -- The runs are as long as those that were lent, in the loop and in what it keeps.
 lengths : (c : tie.At-loop Inv-loop μ-loop) →
     let n = length (Entry (c .before) .args .values .now) in
-    (length (c .loop .values) ≡ n) × (length (c .loop .presence) ≡ n) × (n ≡ length (c .loop .inv .0)) × (n ≡ length (c .loop .inv .1))
+    (length (c .loop .values) ≡ n) × (length (c .loop .presence) ≡ n) × (n ≡ length (c .loop .inv .0 .doubles)) × (n ≡ length (c .loop .inv .0 .marks))
 lengths c = omega (arith, Entry (c .before) .pre .1 .1 .0)
 
 write-next-requires : tie.Need-write-next-requires Inv-loop μ-loop
@@ -70,8 +67,7 @@ loop-holds c =
     let first = second .before .before .before .before .before .before .before in
     let run = s .args .bitmap .now in
     rw (c .first-bit .ensures) (
-      s .args .values .now,
-      s .args .presence .now,
+      runs (s .args .values .now) (s .args .presence .now),
       omega arith,
       omega arith,
       refl,
@@ -83,7 +79,7 @@ group-at-requires : tie.Need-group-at-requires Inv-loop μ-loop
 group-at-requires c κs =
     let l = c .before .before in
     let s = Entry (l .before) in
-    ((s .pre .0, c .if1 .taken), l .loop .inv .6 .starts)
+    ((s .pre .0, c .if1 .taken), l .loop .inv .5 .starts)
 
 fill-marked-requires : tie.Need-fill-marked-requires Inv-loop μ-loop
 fill-marked-requires c κs =
@@ -92,7 +88,7 @@ fill-marked-requires c κs =
     let section = s .args .section .now in
     let groups = s .args .groups in
     let here = c .before .before .before .before .if1 .taken in
-    let passed = l .loop .inv .6 in
+    let passed = l .loop .inv .5 in
     let long = lengths l in
     rw (c .before .before .before .group-at .ensures .0) (
       kept-limits section groups (passed .kept) here (s .pre .0),
@@ -119,10 +115,9 @@ loop-again c =
       l .loop .inv .0,
       l .loop .inv .1,
       l .loop .inv .2,
-      l .loop .inv .3,
+      omega (arith, filled .fill-marked .kept, l .loop .inv .3),
       omega (arith, filled .fill-marked .kept, l .loop .inv .4),
-      omega (arith, filled .fill-marked .kept, l .loop .inv .5),
-      passed-more (s .args .section .now) (s .args .groups) (s .pre .0) (s .pre .1 .0) (l .loop .inv .6) (met .before .if1 .taken) (ones-more run) (met .group-at .ensures .1)
+      passed-more (s .args .section .now) (s .args .groups) (s .pre .0) (s .pre .1 .0) (l .loop .inv .5) (met .before .if1 .taken) (ones-more run) (met .group-at .ensures .1)
           (rw group at (filled .fill-marked .ensures .0)) (rw group at (filled .fill-marked .ensures .1)),
     )
 
@@ -142,8 +137,8 @@ returns c =
     let cleared = c .before .before .before .before in
     let l = cleared .before .before .before .before .before in
     let s = Entry (l .before) in
-    all-cleared (s .args .section .now) (s .args .groups) (s .pre .0) (s .pre .1 .0) (l .loop .inv .6) (cleared .before .before .before .if1 .left) (cleared .clear-missing .ensures)
-    (length (s .args .values .now)) (lengths l .2) (lengths l .3) (s .pre .1 .1 .1)
+    all-cleared (s .args .section .now) (s .args .groups) (s .pre .0) (s .pre .1 .0) (l .loop .inv .5) (cleared .before .before .before .if1 .left) (cleared .clear-missing .ensures)
+    (runs (s .args .values .now) (s .args .presence .now)) (lengths l .2) (lengths l .3) (s .pre .1 .1 .1)
 
 pub fill-marked-spec : {M : Type 1} → statement M
 fill-marked-spec =
