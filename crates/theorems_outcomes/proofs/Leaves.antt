@@ -76,20 +76,33 @@ bits-octets-of-run _ 𝓤 _ _ _ _ _ _ _ _ _ _ _ _ = one 𝓤 (λ p q. (alike p q
 pub reader-new : Determined reader.new.ended (λ _. reader.new.clauses)
 reader-new _ 𝓤 _ _ _ _ _ _ _ _ _ _ _ _ = one 𝓤 (λ p q. (λ i. record { run = alike (p .0) (q .0) i; at = alike (p .1) (q .1) i }, refl))
 
+-- What was read is a record of its number, or its pair, and the reader behind it; what was taken, of the numbers and the place behind them.
 pub reader-next : Determined reader.next.ended (λ _. reader.next.clauses)
-reader-next _ 𝓤 _ _ _ _ _ _ _ _ _ _ _ _ = one 𝓤 (λ p q. (alike p q, refl))
+reader-next _ 𝓤 _ _ _ _ _ _ _ _ _ _ _ _ =
+    one 𝓤 (λ p q. (
+      λ i. record {
+        number = alike (p .number) (q .number) i;
+        reader = record { run = alike (p .sameRun) (q .sameRun) i; at = record { 0 = alike (p .behind) (q .behind) i } };
+      },
+      refl,
+    ))
 
 pub reader-next-pair : Determined reader.next_pair.ended (λ _. reader.next_pair.clauses)
-reader-next-pair _ 𝓤 _ _ _ _ _ _ _ _ _ _ _ _ = one 𝓤 (λ p q. (λ i. record { first = alike (p .0) (q .0) i; second = alike (p .1) (q .1) i }, refl))
-
-pub reader-moved : Determined reader.moved.ended (λ _. reader.moved.clauses)
-reader-moved _ 𝓤 _ _ _ _ _ _ _ _ _ _ _ _ = one 𝓤 (λ p q. (λ i. record { run = alike (p .0) (q .0) i; at = alike (p .1) (q .1) i }, refl))
+reader-next-pair _ 𝓤 _ _ _ _ _ _ _ _ _ _ _ _ =
+    one 𝓤 (λ p q. (
+      λ i. record {
+        pair = record { first = alike (p .first) (q .first) i; second = alike (p .second) (q .second) i };
+        reader = record { run = alike (p .sameRun) (q .sameRun) i; at = record { 0 = alike (p .behind) (q .behind) i } };
+      },
+      refl,
+    ))
 
 pub reader-take : Determined reader.take.ended (λ _. reader.take.clauses)
-reader-take _ 𝓤 _ _ _ _ _ _ _ _ _ _ _ _ = one 𝓤 (λ p q. (alike p q, refl))
+reader-take _ 𝓤 _ _ _ _ _ _ _ _ _ _ _ _ = one 𝓤 (λ p q. (λ i. record { number = alike (p .0) (q .0) i; next = record { 0 = alike (p .1) (q .1) i } }, refl))
 
 pub reader-take-pair : Determined reader.take_pair.ended (λ _. reader.take_pair.clauses)
-reader-take-pair _ 𝓤 _ _ _ _ _ _ _ _ _ _ _ _ = one 𝓤 (λ p q. (λ i. record { first = alike (p .0) (q .0) i; second = alike (p .1) (q .1) i }, refl))
+reader-take-pair _ 𝓤 _ _ _ _ _ _ _ _ _ _ _ _ =
+    one 𝓤 (λ p q. (λ i. record { first = alike (p .0) (q .0) i; second = alike (p .1) (q .1) i; next = record { 0 = alike (p .2) (q .2) i } }, refl))
 
 -- Numbers and codes of refusals.
 pub refusals-number-of : Determined refusals.number_of.ended (λ _. refusals.number_of.clauses)

@@ -16,11 +16,11 @@ use Rattle.values_group.specs.declared.Worked.the-variants as Worked
 -- The relations between a point, the next one and both runs leave nothing open.
 pub points-clear-missing : Determined points.clear_missing.ended (λ _. points.clear_missing.clauses)
 points-clear-missing _ 𝓤 _ _ _ _ _ _ _ _ _ _ _ _ =
-    one 𝓤 (λ p q. let same = cleared-determined p q in (same .0, λ i. (tt, (same .1 i, (same .2 i, (tt, tt))))))
+    one 𝓤 (λ p q. let same = cleared-determined p q in (same .0, λ i. (tt, (same .1 i .doubles, (same .1 i .marks, (tt, tt))))))
 
 pub points-write-next : Determined points.write_next.ended (λ _. points.write_next.clauses)
 points-write-next _ 𝓤 _ _ _ _ _ _ _ _ _ _ _ _ =
-    one 𝓤 (λ p q. let same = written-determined p q in (same .0, λ i. (tt, (tt, (tt, (same .1 i, (same .2 i, (tt, tt))))))))
+    one 𝓤 (λ p q. let same = written-determined p q in (same .0, λ i. (tt, (tt, (tt, (same .1 i .doubles, (same .1 i .marks, (tt, tt))))))))
 
 pub points-present-until : Determined points.present_until.ended (λ _. points.present_until.clauses)
 points-present-until _ 𝓤 _ _ _ _ _ _ _ _ _ _ _ _ = one 𝓤 (λ p q. (until-determined p q, refl))
@@ -38,21 +38,21 @@ group-fill-all _ 𝓤 _ _ _ _ _ _ _ _ _ _ _ _ =
     two 𝓤 (λ p q.
     let kept = kept-determined (p .0) (q .0) in
     let same = written-determined (p .1) (q .1) in
-    (λ i. record { x = kept .0 i; before = kept .1 i; point = same .0 i }, λ i. (tt, (tt, (tt, (same .1 i, (same .2 i, (tt, tt))))))))
+    (λ i. record { x = kept .0 i; before = kept .1 i; point = same .0 i }, λ i. (tt, (tt, (tt, (same .1 i .doubles, (same .1 i .marks, (tt, tt))))))))
 
 pub group-fill-marked : Determined group.fill_marked.ended (λ _. group.fill_marked.clauses)
 group-fill-marked _ 𝓤 _ _ _ _ _ _ _ _ _ _ _ _ =
     two 𝓤 (λ p q.
     let kept = kept-determined (p .0) (q .0) in
     let same = written-determined (p .1) (q .1) in
-    (λ i. record { x = kept .0 i; before = kept .1 i; point = same .0 i }, λ i. (tt, (tt, (tt, (tt, (same .1 i, (same .2 i, (tt, tt)))))))))
+    (λ i. record { x = kept .0 i; before = kept .1 i; point = same .0 i }, λ i. (tt, (tt, (tt, (tt, (same .1 i .doubles, (same .1 i .marks, (tt, tt)))))))))
 
 -- Both runs of a field in simple packing.
 pub simple-fill-all : Determined simple.fill_all.ended (λ _. simple.fill_all.clauses)
-simple-fill-all _ 𝓤 _ _ _ _ _ _ _ _ _ _ _ _ = two 𝓤 (λ p q. (refl, λ i. (tt, (tt, (tt, (alike (p .0) (q .0) i, (alike (p .1) (q .1) i, tt)))))))
+simple-fill-all _ 𝓤 _ _ _ _ _ _ _ _ _ _ _ _ = one 𝓤 (λ p q. (refl, λ i. (tt, (tt, (tt, (alike (p .0) (q .0) i, (alike (p .1) (q .1) i, tt)))))))
 
 pub simple-fill-marked : Determined simple.fill_marked.ended (λ _. simple.fill_marked.clauses)
-simple-fill-marked _ 𝓤 _ _ _ _ _ _ _ _ _ _ _ _ = two 𝓤 (λ p q. (refl, λ i. (tt, (tt, (tt, (tt, (alike (p .0) (q .0) i, (alike (p .1) (q .1) i, tt))))))))
+simple-fill-marked _ 𝓤 _ _ _ _ _ _ _ _ _ _ _ _ = one 𝓤 (λ p q. (refl, λ i. (tt, (tt, (tt, (tt, (alike (p .0) (q .0) i, (alike (p .1) (q .1) i, tt))))))))
 
 -- The groups of a field in complex packing, and both runs.
 pub complex-groups-in : Determined complex.groups_in.ended (λ _. complex.groups_in.clauses)
@@ -62,7 +62,7 @@ pub complex-is-in-range : Determined complex.is_in_range.ended (λ _. complex.is
 complex-is-in-range _ 𝓤 _ _ _ _ _ _ _ _ _ _ _ _ = one 𝓤 (λ p q. (alike p q, refl))
 
 pub complex-fill-all : Determined complex.fill_all.ended (λ _. complex.fill_all.clauses)
-complex-fill-all _ 𝓤 _ _ _ _ _ _ _ _ _ _ _ _ = two 𝓤 (λ p q. (refl, λ i. (tt, (tt, (tt, (alike (p .0) (q .0) i, (alike (p .1) (q .1) i, tt)))))))
+complex-fill-all _ 𝓤 _ _ _ _ _ _ _ _ _ _ _ _ = one 𝓤 (λ p q. (refl, λ i. (tt, (tt, (tt, (alike (p .0) (q .0) i, (alike (p .1) (q .1) i, tt)))))))
 
 pub complex-fill-marked : Determined complex.fill_marked.ended (λ _. complex.fill_marked.clauses)
-complex-fill-marked _ 𝓤 _ _ _ _ _ _ _ _ _ _ _ _ = two 𝓤 (λ p q. (refl, λ i. (tt, (tt, (tt, (tt, (alike (p .0) (q .0) i, (alike (p .1) (q .1) i, tt))))))))
+complex-fill-marked _ 𝓤 _ _ _ _ _ _ _ _ _ _ _ _ = one 𝓤 (λ p q. (refl, λ i. (tt, (tt, (tt, (tt, (alike (p .0) (q .0) i, (alike (p .1) (q .1) i, tt))))))))
