@@ -15,7 +15,7 @@ use Rattle.section_6.specs.Presence.{onesBefore}
 use Rattle.section_6.proofs.Laws.{ones-more}
 use Rattle.doubles.specs.declared.Packing.{Packing}
 use Rattle.values_points.specs.Points.{doubleAt}
-use Rattle.values_points.specs.Written.{Marks, marked, Runs, Cleared, Written, Filled}
+use Rattle.values_points.specs.Written.{Marks, onesOf, Runs, Cleared, Written, Filled}
 use Rattle.values_points.proofs.Laws.{rank-mono}
 use Rattle.values_points.proofs.Missing.{cleared-filled}
 use Rattle.values_group.specs.declared.Reached.{Reached}
@@ -32,7 +32,7 @@ ones-none bitmap = refl
 
 -- Before a later point no fewer are present.
 ones-mono : (bitmap : List ℕ) {i : ℕ} (j : ℕ) → i ≤ j → onesBefore bitmap i ≤ onesBefore bitmap j
-ones-mono bitmap {i} j h = rank-mono (marked bitmap) (ones-more bitmap) {i = i} j h
+ones-mono bitmap {i} j h = rank-mono (onesOf bitmap) (ones-more bitmap) {i = i} j h
 
 -- Of two points that are present at least, one is left behind the first.
 pub second-left : {m : Marks} {p : Packing} {x : ℕ → ℕ} {next : ℕ} {a b : Runs} → Written m p x 1 0 next a b →
@@ -43,11 +43,11 @@ second-left {m} {p} {x} {next} {a} w none two =
 
 module _ (run : List ℕ) (g : Groups) (sound : Sound run g) where
   module _ (all : areInRange (integerIn run g) (valuesIn run g) ≡ true) {bitmap : List ℕ} {p : Packing} {a b : Runs} {i : ℕ} {reached : Reached} {start : Start}
-      (s : Passed run g (marked bitmap) p a i reached start b) (past : g .grouping .groups ≤ i) where
+      (s : Passed run g (onesOf bitmap) p a i reached start b) (past : g .grouping .groups ≤ i) where
     -- Behind the last value no point is present, so to clear what is missing is to reach the end, and both runs are filled.
     pub all-cleared : {next : ℕ} {c : Runs} → Cleared bitmap (reached .point) next b c →
         (before : Runs) → length (before .doubles) ≡ length (a .doubles) → length (before .doubles) ≡ length (a .marks) →
-        valuesIn run g ≡ onesBefore bitmap (length (before .doubles)) → Filled (marked bitmap) p (sizeIn run g) before c
+        valuesIn run g ≡ onesBefore bitmap (length (before .doubles)) → Filled (onesOf bitmap) p (sizeIn run g) before c
     all-cleared {next} {c} cleared before whole wholeMarks given =
         let n = length (before .doubles) in
         let double : ℕ → Float = doubleAt p (sizeIn run g) (bitAt bitmap) (onesBefore bitmap) in

@@ -3,7 +3,7 @@
 ghost use mathlib.Core.Path.{_≡_};
 ghost use Prim.Native.Nat.{_+_, _*_, _≤_, _<_};
 ghost use lib.ListN.{length};
-ghost use Rattle.values_points.specs.Written.{everyPoint, marked, lent, left, Room, MarkedRoom, Filled};
+ghost use Rattle.values_points.specs.Written.{everyPoint, onesOf, lent, left, Room, MarkedRoom, Filled};
 ghost use Rattle.section_6.specs.Presence.{onesBefore};
 ghost use Rattle.section_7_layout.specs.Runs.{Limited};
 ghost use Rattle.values_integers.specs.Worked.{raisedBy, loweredBy};
@@ -209,7 +209,7 @@ pub fn fill_marked(
     requires { ⌜ AllInRange (now section) groups ⌝ }
     requires { ⌜ MarkedRoom (now bitmap) (now values) (now presence) ⌝ }
     requires { ⌜ valuesIn (now section) groups ≡ onesBefore (now bitmap) (length (now values)) ⌝ }
-    ensures { λ _. ⌜ Filled (marked (now (bitmap .entry))) packing (sizeIn (now (section .entry)) groups) (lent values presence) (left values presence) ⌝ }
+    ensures { λ _. ⌜ Filled (onesOf (now (bitmap .entry))) packing (sizeIn (now (section .entry)) groups) (lent values presence) (left values presence) ⌝ }
 {
     let layout = groups.layout;
     let grouping = groups.grouping;

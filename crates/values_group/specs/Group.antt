@@ -64,8 +64,8 @@ PairLimits run g pairs x before =
     (Limits g x before) × (2 * pairs ≤ g .count) × (g .width ≤ 28) × ((g .from .0 + 2 * pairs * g .width) / 8 + 8 ≤ length run)
 
 -- The first `count` integers of the group, behind the two last ones, have been judged: all are in their range.
-abbrev pub Judged : List ℕ → declared.Group → ℕ → Reached → Type 0
-Judged run g count from = isKept (workedBy run g (Worked.Kept (from .x) (from .before)) count) ≡ true
+abbrev pub GroupKept : List ℕ → declared.Group → ℕ → Reached → Type 0
+GroupKept run g count from = isKept (workedBy run g (Worked.Kept (from .x) (from .before)) count) ≡ true
 
 -- They are written to the points from the next one on, up to where the writing has come then.
 abbrev pub GroupWritten : Marks → Packing → List ℕ → declared.Group → ℕ → Reached → Reached → Runs → Runs → Type 0

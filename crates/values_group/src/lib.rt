@@ -2,10 +2,9 @@
 ghost use mathlib.Core.Path.{_≡_};
 ghost use Prim.Native.Nat.{_+_, _*_, _≤_};
 ghost use lib.ListN.{length};
-ghost use Rattle.section_6.specs.Presence.{onesBefore};
-ghost use Rattle.values_points.specs.Written.{everyPoint, marked, lent, left, Room, MarkedRoom};
+ghost use Rattle.values_points.specs.Written.{everyPoint, onesOf, lent, left, Room, MarkedRoom, PointsLeft};
 ghost use Rattle.values_group.specs.declared.Worked.the-variants as Worked;
-ghost use Rattle.values_group.specs.Group.{Limits, PairLimits, Judged, GroupWritten, behind, workedBy};
+ghost use Rattle.values_group.specs.Group.{Limits, PairLimits, GroupKept, GroupWritten, behind, workedBy};
 use doubles::Packing;
 use octets::BitPlace;
 
@@ -142,7 +141,7 @@ fn fill_each(
     reached: Reached,
 ) -> Reached
     requires { ⌜ Limits group (reached .x) (reached .before) ⌝ }
-    requires { ⌜ Judged (now section) group (group .count) reached ⌝ }
+    requires { ⌜ GroupKept (now section) group (group .count) reached ⌝ }
     requires { ⌜ Room (now values) (now presence) ⌝ }
     requires { ⌜ reached .point + group .count ≤ length (now values) ⌝ }
     ensures { λ r. ⌜ workedBy (now (section .entry)) group (Worked.Kept (reached .x) (reached .before)) (group .count) ≡ Worked.Kept (r .x) (r .before) ⌝ }
@@ -185,7 +184,7 @@ fn fill_pairs(
     reached: Reached,
 ) -> Reached
     requires { ⌜ PairLimits (now section) group pairs (reached .x) (reached .before) ⌝ }
-    requires { ⌜ Judged (now section) group (2 * pairs) reached ⌝ }
+    requires { ⌜ GroupKept (now section) group (2 * pairs) reached ⌝ }
     requires { ⌜ Room (now values) (now presence) ⌝ }
     requires { ⌜ reached .point + 2 * pairs ≤ length (now values) ⌝ }
     ensures { λ r. ⌜ workedBy (now (section .entry)) group (Worked.Kept (reached .x) (reached .before)) (2 * pairs) ≡ Worked.Kept (r .x) (r .before) ⌝ }
@@ -231,7 +230,7 @@ pub fn fill_all(
     reached: Reached,
 ) -> Reached
     requires { ⌜ Limits group (reached .x) (reached .before) ⌝ }
-    requires { ⌜ Judged (now section) group (group .count) reached ⌝ }
+    requires { ⌜ GroupKept (now section) group (group .count) reached ⌝ }
     requires { ⌜ Room (now values) (now presence) ⌝ }
     requires { ⌜ reached .point + group .count ≤ length (now values) ⌝ }
     ensures { λ r. ⌜ workedBy (now (section .entry)) group (Worked.Kept (reached .x) (reached .before)) (group .count) ≡ Worked.Kept (r .x) (r .before) ⌝ }
@@ -263,11 +262,12 @@ pub fn fill_marked(
     reached: Reached,
 ) -> Reached
     requires { ⌜ Limits group (reached .x) (reached .before) ⌝ }
-    requires { ⌜ Judged (now section) group (group .count) reached ⌝ }
+    requires { ⌜ GroupKept (now section) group (group .count) reached ⌝ }
     requires { ⌜ MarkedRoom (now bitmap) (now values) (now presence) ⌝ }
-    requires { ⌜ (reached .point ≤ length (now values)) × (onesBefore (now bitmap) (reached .point) + group .count ≤ onesBefore (now bitmap) (length (now values))) ⌝ }
+    requires { ⌜ PointsLeft (now bitmap) (reached .point) (group .count) (length (now values)) ⌝ }
     ensures { λ r. ⌜ workedBy (now (section .entry)) group (Worked.Kept (reached .x) (reached .before)) (group .count) ≡ Worked.Kept (r .x) (r .before) ⌝ }
-    ensures { λ r. ⌜ GroupWritten (marked (now (bitmap .entry))) packing (now (section .entry)) group (group .count) reached r (lent values presence) (left values presence) ⌝ }
+    ensures { λ r. ⌜ GroupWritten (onesOf (now (bitmap .entry))) packing (now (section .entry)) group (group .count) reached r
+        (lent values presence) (left values presence) ⌝ }
 {
     let width = group.width;
     let base = group.base;

@@ -18,7 +18,7 @@ use Rattle.doubles.specs.declared.Packing.{Packing}
 use Rattle.values_points.specs.Points.{pointValue, doubleAt}
 use Rattle.section_6.specs.Presence.{onesBefore}
 use Rattle.section_6.proofs.Laws.{ones-more}
-use Rattle.values_points.specs.Written.{Runs, runs, marked, WrittenPast, Missing, Cleared}
+use Rattle.values_points.specs.Written.{Runs, runs, onesOf, WrittenPast, Missing, Cleared}
 use Rattle.values_points.proofs.Laws.{neither-less, written-field}
 
 -- The literal 0.0 is +0.
@@ -80,7 +80,7 @@ ones-missing bitmap point (suc n) h =
 
 -- To clear missing points is to write no integer.
 pub cleared-past : {bitmap : List ℕ} (p : Packing) (x : ℕ → ℕ) {point next : ℕ} {a b : Runs} → Cleared bitmap point next a b →
-    WrittenPast (marked bitmap) p x 0 point next a b
+    WrittenPast (onesOf bitmap) p x 0 point next a b
 cleared-past {bitmap} p x {point} {next} {a} {b} cleared =
     record {
       onward = c .onward;
@@ -110,7 +110,7 @@ pub cleared-filled : {bitmap : List ℕ} (p : Packing) (x : ℕ → ℕ) (values
 cleared-filled {bitmap} p x values presence {point} {next} {a} {b} c doubles marks =
     let w = cleared-past p x c in
     let double : ℕ → Float = doubleAt p x (bitAt bitmap) (onesBefore bitmap) in
-    let field : b .doubles ≡ filled double point (next - point) (a .doubles) = written-field (marked bitmap) (ones-more bitmap) p x x w (λ k none. absurd (omega arith)) in (
+    let field : b .doubles ≡ filled double point (next - point) (a .doubles) = written-field (onesOf bitmap) (ones-more bitmap) p x x w (λ k none. absurd (omega arith)) in (
       filled-further double values (a .doubles) (b .doubles) (w .onward) doubles field,
       filled-further (bitAt bitmap) presence (a .marks) (b .marks) (w .onward) marks (w .marks),
     )

@@ -26,8 +26,8 @@ abbrev pub everyPoint : Marks
 everyPoint = record { mark = λ _. 1; rank = λ i. i }
 
 -- The points are present that have a 1 in a bitmap.
-abbrev pub marked : List ℕ → Marks
-marked bitmap = record { mark = bitAt bitmap; rank = onesBefore bitmap }
+abbrev pub onesOf : List ℕ → Marks
+onesOf bitmap = record { mark = bitAt bitmap; rank = onesBefore bitmap }
 
 -- The two runs that are lent for the points of a field: their doubles, and whether each is present.
 pub record Runs : Type 0 where
@@ -52,6 +52,10 @@ Room values presence = (length presence ≡ length values) × (length values ≤
 -- So they have, and a bitmap has a bit for each element.
 abbrev pub MarkedRoom : List ℕ → List Float → List ℕ → Type 0
 MarkedRoom bitmap values presence = (length presence ≡ length values) × (length values ≤ 16777216) × (length values ≤ 8 * length bitmap)
+
+-- Of the n points of a field, at least `count` that a bitmap has are left from one on.
+abbrev pub PointsLeft : List ℕ → (point count n : ℕ) → Type 0
+PointsLeft bitmap point count n = (point ≤ n) × (onesBefore bitmap point + count ≤ onesBefore bitmap n)
 
 -- The points from `point` up to `next` are written, and no other: `count` integers went to those of them that are present. Missing points behind
 -- the last integer may be among them.

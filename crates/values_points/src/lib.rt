@@ -3,7 +3,7 @@ ghost use mathlib.Core.Path.{_≡_};
 ghost use Prim.Native.Nat.{_*_, _≤_, _<_};
 ghost use lib.ListN.{length};
 ghost use Rattle.section_6.specs.Presence.{onesBefore};
-ghost use Rattle.values_points.specs.Written.{marked, lent, left, MarkedRoom, Cleared, Written, isFull, Until};
+ghost use Rattle.values_points.specs.Written.{onesOf, lent, left, MarkedRoom, Cleared, Written, isFull, Until};
 use doubles::Packing;
 use octets::BitPlace;
 
@@ -36,7 +36,7 @@ pub fn write_next(
 ) -> usize
     requires { ⌜ MarkedRoom (now bitmap) (now values) (now presence) ⌝ }
     requires { ⌜ (point ≤ length (now values)) × (onesBefore (now bitmap) point < onesBefore (now bitmap) (length (now values))) ⌝ }
-    ensures { λ r. ⌜ Written (marked (now (bitmap .entry))) packing (λ _. x) 1 point r (lent values presence) (left values presence) ⌝ }
+    ensures { λ r. ⌜ Written (onesOf (now (bitmap .entry))) packing (λ _. x) 1 point r (lent values presence) (left values presence) ⌝ }
 {
     let next = clear_missing(bitmap, values, presence, point);
     values[next] = doubles::rebuild(packing, x);

@@ -16,7 +16,7 @@ use Rattle.doubles.specs.declared.Packing.{Packing}
 use Rattle.section_6.specs.Presence.{onesBefore}
 use Rattle.section_6.proofs.Laws.{ones-more}
 use Rattle.values_points.specs.Points.{pointValue, doubleAt}
-use Rattle.values_points.specs.Written.{Marks, marked, Runs, WrittenPast, Cleared, Filled, Until}
+use Rattle.values_points.specs.Written.{Marks, onesOf, Runs, WrittenPast, Cleared, Filled, Until}
 use Rattle.values_points.proofs.Laws.{past-then, written-field}
 use Rattle.values_points.proofs.Missing.{cleared-past, cleared-further}
 use Rattle.values_points.proofs.Present.{WrittenAll}
@@ -42,7 +42,7 @@ ones-present bitmap from (suc n) h =
 
 -- A stretch that is written as all present is one written by a bitmap that has all of its points.
 pub all-marked : (bitmap : List ℕ) (packing : Packing) (x : ℕ → ℕ) {from to : ℕ} {a b : Runs} →
-    WrittenAll packing x from to a b → ((i : ℕ) → from ≤ i → i < to → bitAt bitmap i ≡ 1) → WrittenPast (marked bitmap) packing x (to - from) from to a b
+    WrittenAll packing x from to a b → ((i : ℕ) → from ≤ i → i < to → bitAt bitmap i ≡ 1) → WrittenPast (onesOf bitmap) packing x (to - from) from to a b
 all-marked bitmap packing x {from} {to} {a} {b} w present =
     record {
       onward = w .past .onward;
@@ -68,15 +68,15 @@ all-marked bitmap packing x {from} {to} {a} {b} w present =
 
 -- A turn over a field with a bitmap: behind the points that are written, a stretch of points that are present and one of points that are missing.
 pub marked-turn : (bitmap : List ℕ) (packing : Packing) (x y : ℕ → ℕ) {i until next : ℕ} {a b c d : Runs} →
-    WrittenPast (marked bitmap) packing x (onesBefore bitmap i) 0 i a b →
+    WrittenPast (onesOf bitmap) packing x (onesBefore bitmap i) 0 i a b →
     WrittenAll packing y i until b c → ((j : ℕ) → i ≤ j → j < until → bitAt bitmap j ≡ 1) → ((k : ℕ) → y k ≡ x (onesBefore bitmap i + k)) →
     Cleared bitmap until next c d →
-    (onesBefore bitmap next ≡ onesBefore bitmap i + (until - i)) × WrittenPast (marked bitmap) packing x (onesBefore bitmap next) 0 next a d
+    (onesBefore bitmap next ≡ onesBefore bitmap i + (until - i)) × WrittenPast (onesOf bitmap) packing x (onesBefore bitmap next) 0 next a d
 marked-turn bitmap packing x y {i} {until} {next} w v present same cleared =
     let stretch = all-marked bitmap packing y v present in
     let none = cleared-past packing x cleared in
-    let first = past-then (marked bitmap) (ones-more bitmap) packing x y w stretch (λ k _. same k) in
-    let both = past-then (marked bitmap) (ones-more bitmap) packing x x first none (λ k no. absurd (omega arith)) in
+    let first = past-then (onesOf bitmap) (ones-more bitmap) packing x y w stretch (λ k _. same k) in
+    let both = past-then (onesOf bitmap) (ones-more bitmap) packing x x first none (λ k no. absurd (omega arith)) in
     let count : onesBefore bitmap next ≡ onesBefore bitmap i + (until - i) + 0 = omega (arith, stretch .used, none .used) in
     (omega (arith, count), rw count both)
 

@@ -2,7 +2,7 @@
 ghost use mathlib.Core.Path.{_≡_};
 ghost use Prim.Native.Nat.{_+_, _-_, _*_, _/_, _≤_};
 ghost use lib.ListN.{length};
-ghost use Rattle.values_points.specs.Written.{everyPoint, marked, lent, left, Room, MarkedRoom, Filled};
+ghost use Rattle.values_points.specs.Written.{everyPoint, onesOf, lent, left, Room, MarkedRoom, Filled};
 ghost use Rattle.values_integers.specs.Integers.{simpleInteger};
 ghost use Rattle.values_simple.specs.Simple.{NumbersWritten};
 use doubles::Packing;
@@ -119,7 +119,7 @@ pub fn fill_marked(
     presence: &mut [u8],
 )
     requires { ⌜ MarkedRoom (now bitmap) (now values) (now presence) × (bits ≤ 31) ⌝ }
-    ensures { λ _. ⌜ Filled (marked (now (bitmap .entry))) packing (simpleInteger (now (section .entry)) bits) (lent values presence) (left values presence) ⌝ }
+    ensures { λ _. ⌜ Filled (onesOf (now (bitmap .entry))) packing (simpleInteger (now (section .entry)) bits) (lent values presence) (left values presence) ⌝ }
 {
     let mut at = octets::first_bit(OctetNumber(6));
     let mut i: usize = 0;

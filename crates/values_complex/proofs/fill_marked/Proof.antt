@@ -7,7 +7,7 @@ use borrow.Author.Needs.{needs}
 use lib.ListN.{length}
 use Rattle.section_6.specs.Presence.{onesBefore}
 use Rattle.section_6.proofs.Laws.{ones-more}
-use Rattle.values_points.specs.Written.{marked, Runs, runs}
+use Rattle.values_points.specs.Written.{onesOf, Runs, runs}
 use Rattle.values_complex.proofs.Bounds.{packed-low, starts-bounded}
 use Rattle.values_complex.proofs.Passed.{Passed, next-kept, passed-more, passed-none}
 use Rattle.values_complex.proofs.Marked.{ones-none, second-left, all-cleared}
@@ -18,7 +18,7 @@ use Rattle.values_complex.proofs.fill_marked.Tie as tie
 abbrev Inv-loop : tie.InvT-loop
 Inv-loop section bitmap groups packing values₀ presence₀ grouping one two reached₀ start₀ i₀ values presence reached start i =
     (a : Runs) × (length (a .doubles) ≡ length values₀) × (length (a .marks) ≡ length presence₀) × (length values ≡ length values₀)
-    × (length presence ≡ length presence₀) × Passed section groups (marked bitmap) packing a i reached start (runs values presence)
+    × (length presence ≡ length presence₀) × Passed section groups (onesOf bitmap) packing a i reached start (runs values presence)
 
 abbrev μ-loop : tie.MeasureT-loop
 μ-loop section bitmap groups packing values₀ presence₀ grouping one two reached₀ start₀ i₀ values presence reached start i = grouping .groups - i

@@ -7,7 +7,7 @@ use borrow.Author.Needs.{needs}
 use lib.ListN.{length}
 use Rattle.section_6.specs.Presence.{onesBefore}
 use Rattle.section_6.proofs.Laws.{ones-more}
-use Rattle.values_points.specs.Written.{runs, marked, Written}
+use Rattle.values_points.specs.Written.{runs, onesOf, Written}
 use Rattle.values_points.proofs.Laws.{written-none, written-then}
 use Rattle.values_group.specs.declared.Worked.the-variants as Worked
 use Rattle.values_group.specs.Group.{mostX, workedBy, lastOf, integerFrom}
@@ -21,7 +21,7 @@ Inv-loop section bitmap packing values₀ presence₀ width base lowered count a
     (done ≤ count) × (length values ≡ length values₀) × (length presence ≡ length presence₀)
     × (at .0 ≡ at₀ .0 + done * width) × (at .0 ≤ at₀ .0 + done * 31) × (x ≤ mostX) × (before ≤ mostX)
     × (workedBy section (groupOf (at₀ .0) width base lowered count) (Worked.Kept x₀ before₀) done ≡ Worked.Kept x before)
-    × Written (marked bitmap) packing (integerFrom section (groupOf (at₀ .0) width base lowered count) x₀ before₀) done i₀ i (runs values₀ presence₀) (runs values presence)
+    × Written (onesOf bitmap) packing (integerFrom section (groupOf (at₀ .0) width base lowered count) x₀ before₀) done i₀ i (runs values₀ presence₀) (runs values presence)
 
 abbrev μ-loop : tie.MeasureT-loop
 μ-loop section bitmap packing values₀ presence₀ width base lowered count at₀ x₀ before₀ i₀ done₀ values presence at x before i done = count - done
@@ -69,7 +69,7 @@ loop-holds c =
       s .pre .0 .ofLast,
       s .pre .0 .ofBefore,
       refl,
-      written-none (marked run) (ones-more run) (s .args .packing) (integers s) (s .args .reached .point) (runs (s .args .values .now) (s .args .presence .now)) (s .pre .1 .1 .1 .0),
+      written-none (onesOf run) (ones-more run) (s .args .packing) (integers s) (s .args .reached .point) (runs (s .args .values .now) (s .args .presence .now)) (s .pre .1 .1 .1 .0),
     )
 
 take-requires : tie.Need-take-requires Inv-loop μ-loop
@@ -129,7 +129,7 @@ loop-again c =
       ranged taken .high,
       l .inv .5,
       next,
-      written-then (marked run) (ones-more run) (s .args .packing) (integers s) (λ _. x % 2147483648) (l .inv .8) (write .write-next .ensures) given,
+      written-then (onesOf run) (ones-more run) (s .args .packing) (integers s) (λ _. x % 2147483648) (l .inv .8) (write .write-next .ensures) given,
     )
 
 same-length : tie.Need-same-length Inv-loop μ-loop
@@ -146,7 +146,7 @@ returns c =
     let run = a .bitmap .now in
     let all : l .done ≡ a .group .count = omega arith in (
       sym (ap (workedBy (a .section .now) (a .group) (Worked.Kept (a .reached .x) (a .reached .before))) all) ∙ l .inv .7,
-      subst (λ (n : ℕ). Written (marked run) (a .packing) (integers s) n (a .reached .point) (l .point) (runs (a .values .now) (a .presence .now)) (runs (l .values) (l .presence))) all (l .inv .8),
+      subst (λ (n : ℕ). Written (onesOf run) (a .packing) (integers s) n (a .reached .point) (l .point) (runs (a .values .now) (a .presence .now)) (runs (l .values) (l .presence))) all (l .inv .8),
     )
 
 pub fill-marked-spec : {M : Type 1} → statement M

@@ -5,7 +5,7 @@ use native.Mathlib.Omega.{arith}
 use borrow.Author.Needs.{needs}
 use lib.ListN.{length}
 use Rattle.section_6.proofs.Laws.{ones-more}
-use Rattle.values_points.specs.Written.{marked}
+use Rattle.values_points.specs.Written.{onesOf}
 use Rattle.values_points.proofs.Laws.{rank-below, written-present}
 use Rattle.values_points.proofs.Missing.{cleared-past}
 use Rattle.values_points.proofs.write_next.Statement.{statement}
@@ -20,7 +20,7 @@ found c =
     let s = c .before .before .before .before .before .before in
     let run = s .args .bitmap .now in
     let cleared = cleared-past (s .args .packing) (λ _. s .args .x) (c .clear-missing .ensures) in
-    rank-below (marked run) (ones-more run) {i = c .clear-missing .result} (length (s .args .values .now)) (omega (arith, cleared .used, s .pre .1 .1))
+    rank-below (onesOf run) (ones-more run) {i = c .clear-missing .result} (length (s .args .values .now)) (omega (arith, cleared .used, s .pre .1 .1))
 
 rebuild-requires : tie.Need-rebuild-requires
 rebuild-requires c κs = search needs
@@ -50,7 +50,7 @@ returns c =
     let run = a .bitmap .now in
     let cleared = cleared-past (a .packing) (λ _. a .x) (k .clear-missing .ensures) in
     rw (c .rebuild .ensures)
-    (written-present (marked run) (ones-more run) (a .packing) (λ _. a .x) cleared (found k) (k .clear-missing .ensures .present (found k)) refl)
+    (written-present (onesOf run) (ones-more run) (a .packing) (λ _. a .x) cleared (found k) (k .clear-missing .ensures .present (found k)) refl)
 
 pub write-next-spec : {M : Type 1} → statement M
 write-next-spec =

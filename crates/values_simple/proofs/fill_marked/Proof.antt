@@ -8,7 +8,7 @@ use lib.ListN.{length}
 use Rattle.octets.specs.Places.{firstBit}
 use Rattle.section_6.specs.Presence.{onesBefore}
 use Rattle.section_6.proofs.Laws.{ones-more}
-use Rattle.values_points.specs.Written.{marked, runs, WrittenPast}
+use Rattle.values_points.specs.Written.{onesOf, runs, WrittenPast}
 use Rattle.values_points.proofs.Laws.{written-none}
 use Rattle.values_integers.specs.Integers.{simpleInteger}
 use Rattle.values_simple.specs.Simple.{numbersFrom}
@@ -24,7 +24,7 @@ Inv-loop section bitmap bits packing values₀ presence₀ at₀ i₀ values pre
     × (length presence ≡ length presence₀)
     × (at .0 ≡ firstBit 6 + onesBefore bitmap i * bits)
     × (at .0 ≤ 40 + i * 31)
-    × WrittenPast (marked bitmap) packing (simpleInteger section bits) (onesBefore bitmap i) 0 i (runs values₀ presence₀) (runs values presence)
+    × WrittenPast (onesOf bitmap) packing (simpleInteger section bits) (onesBefore bitmap i) 0 i (runs values₀ presence₀) (runs values presence)
 
 abbrev μ-loop : tie.MeasureT-loop
 μ-loop section bitmap bits packing values₀ presence₀ at₀ i₀ values presence at i = length values₀ - i
@@ -41,7 +41,7 @@ loop-holds c =
       refl,
       omega arith,
       omega arith,
-      written-none (marked (a .bitmap .now)) (ones-more (a .bitmap .now)) (a .packing) (simpleInteger (a .section .now) (a .bits)) 0
+      written-none (onesOf (a .bitmap .now)) (ones-more (a .bitmap .now)) (a .packing) (simpleInteger (a .section .now) (a .bits)) 0
           (runs (a .values .now) (a .presence .now)) (omega arith) .past,
     )
 
@@ -101,7 +101,7 @@ unfolding onesBefore
 returns c =
     let a = c .before .before .before .before .before .before .before .args in
     let bitmap = a .bitmap .now in
-    written-rows (marked bitmap) (ones-more bitmap) (a .packing) (simpleInteger (a .section .now) (a .bits)) refl (c .before .loop .inv .5) (omega arith) (omega arith)
+    written-rows (onesOf bitmap) (ones-more bitmap) (a .packing) (simpleInteger (a .section .now) (a .bits)) refl (c .before .loop .inv .5) (omega arith) (omega arith)
 
 pub fill-marked-spec : {M : Type 1} → statement M
 fill-marked-spec =
