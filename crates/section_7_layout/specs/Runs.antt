@@ -57,4 +57,5 @@ pub record Limited (bits : ℕ) (g : Grouping) : Type 0 where
   pub ofWidths : g .widths .reference ≤ 31
   pub ofWidthBits : g .widths .bits ≤ 31
   pub ofLengthBits : g .lengths .bits ≤ 31
+  pub leastExtra : 1 ≤ g .extra
   pub ofExtra : g .extra ≤ 4
