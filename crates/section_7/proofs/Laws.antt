@@ -18,7 +18,7 @@ use Rattle.section_5.specs.declared.Represented.the-variants as Represented
 use Rattle.section_5.specs.declared.Template.{Template}
 use Rattle.section_5.specs.declared.Template.the-variants as Template
 use Rattle.section_5.specs.Representation.{representationAt}
-use Rattle.section_5.proofs.Laws.{represented, represented-groups}
+use Rattle.section_5.proofs.Laws.{represented-bits, represented-groups}
 use Rattle.section_7_layout.specs.declared.Layout.{Layout}
 use Rattle.section_7_layout.specs.Runs.{layoutOf, packedFrom, widthOf, lengthOf}
 use Rattle.section_7.specs.declared.Plan.{Plan}
@@ -153,11 +153,11 @@ pub limited : (file : List ℕ) (s : ℕ) (r : Representation) → representatio
 limited file s r e = by (r .template) refl
   where
     by : (t : Template) → r .template ≡ t → LimitedBy (r .bits) t
-    by Template.Simple same = represented file s e .bits31
+    by Template.Simple same = represented-bits file s e
     by (Template.Complex g) same =
         let grouped = represented-groups file s e same in
         record {
-          ofNumbers = represented file s e .bits31;
+          ofNumbers = represented-bits file s e;
           ofWidths = grouped .width31;
           ofWidthBits = grouped .widthBits31;
           ofLengthBits = grouped .lengthBits31;
