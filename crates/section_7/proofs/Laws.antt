@@ -115,11 +115,11 @@ module _ (file : List ℕ) (s n bits : ℕ) (g : Grouping) where
     by-plan : isGrouped file s n bits g ≡ eqb (lengthAt file s) (packedFrom bits g - 1 + octetsOf packed)
     by-plan = ap (endsWith (lengthAt file s) (layoutOf bits g)) plan
 
-    pub other-length : (lengthAt file s ≡ packedFrom bits g - 1 + octetsOf packed → ⊥) → groupedAt file s n bits g ≡ Packed.NotTaken
-    other-length other = not-taken (by-plan ∙ ne-eqb _ _ other)
+    pub ends-elsewhere : (lengthAt file s ≡ packedFrom bits g - 1 + octetsOf packed → ⊥) → groupedAt file s n bits g ≡ Packed.NotTaken
+    ends-elsewhere other = not-taken (by-plan ∙ ne-eqb _ _ other)
 
-    pub same-length : lengthAt file s ≡ packedFrom bits g - 1 + octetsOf packed → groupedAt file s n bits g ≡ Packed.As (Data.Complex (groupsIn file s bits g))
-    same-length same = rw (by-plan ∙ eq-eqb _ _ same)
+    pub ends-there : lengthAt file s ≡ packedFrom bits g - 1 + octetsOf packed → groupedAt file s n bits g ≡ Packed.As (Data.Complex (groupsIn file s bits g))
+    ends-there same = rw (by-plan ∙ eq-eqb _ _ same)
 
 -- Where a test decides whether data are taken, it holds where some are, and they are those.
 taken : (test : Bool) {held d : Data} → cond test (Packed.As held) Packed.NotTaken ≡ Packed.As d → (d ≡ held) × (test ≡ true)

@@ -7,7 +7,7 @@ use Rattle.section.specs.Sections.{octetsIn}
 use Rattle.section_7_layout.specs.Runs.{layoutOf}
 use Rattle.section_7_layout.proofs.Laws.{Bounded, layout-bounded}
 use Rattle.section_7.specs.Packing.{planOf}
-use Rattle.section_7.proofs.Laws.{too-short, no-plan, reaches, other-length, same-length}
+use Rattle.section_7.proofs.Laws.{too-short, no-plan, reaches, ends-elsewhere, ends-there}
 use Rattle.section_7.proofs.grouped_at.Statement.{statement}
 use Rattle.section_7.proofs.grouped_at.Tie as tie
 
@@ -71,7 +71,7 @@ returns-3 : tie.Need-returns-3
 returns-3 c =
     let laid = c .before .before .before .before .before .before .before .before .before in
     let other = rw (laid .before .length-of .ensures .0, laid .layout-of .ensures, c .before .octets-of .ensures) at (c .if2 .taken) in
-    sym (other-length _ _ _ _ _ (plan (c .before .before .before .before .before) ∙ c .before .before .before .packed .given .1) other)
+    sym (ends-elsewhere _ _ _ _ _ (plan (c .before .before .before .before .before) ∙ c .before .before .before .packed .given .1) other)
 
 differencing-at-requires : tie.Need-differencing-at-requires
 differencing-at-requires c κs =
@@ -84,7 +84,7 @@ returns-4 : tie.Need-returns-4
 returns-4 c =
     let laid = c .before .before .before .before .before .before .before .before .before .before in
     let length = rw (laid .before .length-of .ensures .0, laid .layout-of .ensures, c .before .before .octets-of .ensures) at (c .before .if2 .left) in
-    let grouped = same-length _ _ _ _ _ (plan (c .before .before .before .before .before .before) ∙ c .before .before .before .before .packed .given .1) length in
+    let grouped = ends-there _ _ _ _ _ (plan (c .before .before .before .before .before .before) ∙ c .before .before .before .before .packed .given .1) length in
     rw (laid .layout-of .ensures, c .differencing-at .ensures) (sym grouped)
 
 pub grouped-at-spec : {M : Type 1} → statement M
