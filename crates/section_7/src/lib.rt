@@ -1,8 +1,7 @@
 // Section 7: what it holds. These are the packed numbers of a field and nothing else, and their groups add up (document 01, "Section 7").
 ghost use mathlib.Core.Path.{_≡_};
-ghost use Prim.Native.Nat.{_<_, _≤_, _^_};
 ghost use Rattle.section.specs.Sections.{Lies};
-ghost use Rattle.section_7_layout.specs.Runs.{Limited};
+ghost use Rattle.section_7_layout.specs.Runs.{StartsNear, Limited};
 ghost use Rattle.section_7.specs.Packing.{planOf, groupedAt, dataAt, LimitedBy};
 use octets::FilePlace;
 use section_5::Representation;
@@ -39,8 +38,7 @@ pub enum Plan {
 
 // The plan of the groups, for n values.
 fn plan_of(run: &[u8], layout: Layout, grouping: Grouping, n: u32) -> Plan
-    requires { ⌜ (1 ≤ layout .widths .0) × (layout .widths .0 < 2 ^ 40) × (1 ≤ layout .lengths .0) × (layout .lengths .0 < 2 ^ 40) ⌝ }
-    requires { ⌜ Limited 0 grouping ⌝ }
+    requires { ⌜ (StartsNear (layout .widths)) × (StartsNear (layout .lengths)) × (Limited 0 grouping) ⌝ }
     ensures { λ r. ⌜ r ≡ planOf (now (run .entry)) layout grouping n ⌝ }
 {
     let mut i: u32 = 0;

@@ -36,6 +36,7 @@ plan-of-requires : tie.Need-plan-of-requires
 plan-of-requires c κs =
     let limited = c .before .before .before .before .before .before .pre .1 in (
       omega (arith, bounded (c .before .before .before)),
+      omega (arith, bounded (c .before .before .before)),
       record {
         ofNumbers = omega arith;
         ofWidths = limited .ofWidths;
