@@ -6,19 +6,15 @@ use Prim.Native.Nat.{ℕ, _≤_}
 use borrow.Author.Tests.{eqb-true, leb-true, eq-eqb}
 use lib.Dec.{eqb, leb}
 use Rattle.octets.specs.Places.{placeOf}
-use Rattle.octets.proofs.Cases.{apart, split, both, chosen}
+use Rattle.octets.proofs.Cases.{apart, split, both}
 use Rattle.section.specs.Sections.{octet, held, lengthAt}
-use Rattle.refusals.specs.declared.Refusal.{Refusal}
-use Rattle.refusals.specs.declared.Why.the-variants as Why
-use Rattle.refusals.specs.Refusals.{refusal}
 use Rattle.calendar.specs.declared.Reading.{Reading}
 use Rattle.calendar.specs.declared.Reading.the-variants as Reading
 use Rattle.calendar.specs.Calendar.{timeAt, Gregorian}
 use Rattle.calendar.proofs.Laws.{read-is-gregorian}
 use Rattle.section_1.specs.declared.Identification.{Identification}
-use Rattle.section_1.specs.declared.Identified.{Identified}
 use Rattle.section_1.specs.declared.Identified.the-variants as Identified
-use Rattle.section_1.specs.Identification.{refused, isIdentification, timed, identificationAt}
+use Rattle.section_1.specs.Identification.{isIdentification, timed, identificationAt}
 
 -- The octets that every section 1 has.
 pub record Identifies (file : List ℕ) (s : ℕ) : Type 0 where
@@ -48,9 +44,9 @@ module _ (file : List ℕ) (s : ℕ) where
   status-decides h = simp (eq-eqb _ _ (h .0), eq-eqb _ _ (h .1), eq-eqb _ _ (h .2))
 
   -- What is said of a section 1 follows from the test of its octets, and from the time that they hold.
-  pub refused-by-octets : isIdentification file s ≡ false → identificationAt file s ≡ refused s
+  pub other-octets : isIdentification file s ≡ false → identificationAt file s ≡ Identified.NotTaken
   unfolding identificationAt
-  refused-by-octets e = rw e
+  other-octets e = rw e
 
   pub follows-time : {time : Reading} → isIdentification file s ≡ true → timeAt file (placeOf s 13) ≡ time → identificationAt file s ≡ timed file s time
   unfolding identificationAt
@@ -66,18 +62,4 @@ module _ (file : List ℕ) (s : ℕ) where
   pub identified-gregorian : {i : Identification} → identificationAt file s ≡ Identified.As i → Gregorian (i .reference)
   identified-gregorian {i} said =
       split (isIdentification file s) (λ e. timed-gregorian (timeAt file (placeOf s 13)) refl (sym (follows-time e refl) ∙ said))
-      (λ e. apart (cc (refused-by-octets e)))
-
--- A section 1 is refused by one refusal alone, which stands at it.
-abbrev RefusedAt : ℕ → Identified → Type 0
-RefusedAt s (Identified.As i) = Unit {0}
-RefusedAt s (Identified.Refused r) = r ≡ refusal Why.BadIdentification s
-
-timed-stands : (file : List ℕ) (s : ℕ) (time : Reading) → RefusedAt s (timed file s time)
-timed-stands file s (Reading.At t) = tt
-timed-stands file s Reading.NoTime = refl
-
-pub refused-is : (file : List ℕ) (s : ℕ) {r : Refusal} → identificationAt file s ≡ Identified.Refused r → r ≡ refusal Why.BadIdentification s
-unfolding identificationAt
-refused-is file s said =
-    subst (RefusedAt s) said (chosen (RefusedAt s) (isIdentification file s) (timed file s (timeAt file (placeOf s 13))) (refused s) (timed-stands file s (timeAt file (placeOf s 13))) refl)
+      (λ e. apart (cc (other-octets e)))

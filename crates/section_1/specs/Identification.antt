@@ -5,17 +5,11 @@ use mathlib.Core.List.{List}
 use lib.Dec.{eqb, leb}
 use Rattle.octets.specs.Places.{placeOf}
 use Rattle.section.specs.Sections.{octet, held, lengthAt}
-use Rattle.refusals.specs.declared.Why.the-variants as Why
-use Rattle.refusals.specs.Refusals.{refusal}
 use Rattle.calendar.specs.declared.Reading.{Reading}
 use Rattle.calendar.specs.declared.Reading.the-variants as Reading
 use Rattle.calendar.specs.Calendar.{timeAt}
 use Rattle.section_1.specs.declared.Identified.{Identified}
 use Rattle.section_1.specs.declared.Identified.the-variants as Identified
-
--- Refusal 9 stands at the section.
-abbrev pub refused : ℕ → Identified
-refused s = Identified.Refused (refusal Why.BadIdentification s)
 
 -- The length is 21; the centre, in octets 6-7, is 34, which is JMA in Tokyo; the time is that of the forecast's start (octet 12 is 1); the
 -- status, octet 20, is operational (0) or a trial (1).
@@ -25,7 +19,7 @@ isIdentification file s = eqb (lengthAt file s) 21 && eqb (held file s 6 7) 34 &
 -- Octets 13-19 hold a time of the calendar.
 abbrev pub timed : List ℕ → ℕ → Reading → Identified
 timed file s (Reading.At t) = Identified.As (record { status = octet file s 20; reference = t })
-timed file s Reading.NoTime = refused s
+timed file s Reading.NoTime = Identified.NotTaken
 
 unfoldable pub identificationAt : List ℕ → ℕ → Identified
-identificationAt file s = cond (isIdentification file s) (timed file s (timeAt file (placeOf s 13))) (refused s)
+identificationAt file s = cond (isIdentification file s) (timed file s (timeAt file (placeOf s 13))) Identified.NotTaken

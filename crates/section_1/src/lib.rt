@@ -1,13 +1,11 @@
 // Section 1: the status of a message, and the time that its forecasts start from (document 01, "Section 1").
 ghost use mathlib.Core.Path.{_≡_};
 ghost use Rattle.section.specs.Sections.{Lies};
-ghost use Rattle.section_1.specs.Identification.{refused, isIdentification, identificationAt};
+ghost use Rattle.section_1.specs.Identification.{isIdentification, identificationAt};
 use calendar::Reading;
 use calendar::Time;
 use octets::FilePlace;
 use octets::OctetNumber;
-use refusals::Refusal;
-use refusals::Why;
 
 // What section 1 says: the status, 0 where the message is operational and 1 where it is a trial, and the reference time.
 pub struct Identification {
@@ -17,16 +15,7 @@ pub struct Identification {
 
 pub enum Identified {
     As(Identification),
-    Refused(Refusal),
-}
-
-fn refused(place: FilePlace) -> Identified
-    ensures { λ r. ⌜ r ≡ refused (place .0) ⌝ }
-{
-    Identified::Refused(Refusal {
-        why: Why::BadIdentification,
-        place,
-    })
+    NotTaken,
 }
 
 // Does the section have the octets that every section 1 has?
@@ -46,19 +35,19 @@ fn is_identification(file: &[u8], at: FilePlace) -> bool
     section::octet(file, at, OctetNumber(20)) <= 1
 }
 
-// What the section 1 at `at` says, or refusal 9.
+// What the section 1 at `at` says, or that it is not taken.
 pub fn identification_at(file: &[u8], at: FilePlace) -> Identified
     requires { ⌜ Lies (now file) (at .0) ⌝ }
     ensures { λ r. ⌜ r ≡ identificationAt (now (file .entry)) (at .0) ⌝ }
 {
     if !is_identification(file, at) {
-        return refused(at);
+        return Identified::NotTaken;
     }
     match calendar::time_at(file, octets::place_of(at, OctetNumber(13))) {
         Reading::At(reference) => {
             let status = section::octet(file, at, OctetNumber(20));
             Identified::As(Identification { status, reference })
         }
-        Reading::NoTime => refused(at),
+        Reading::NoTime => Identified::NotTaken,
     }
 }

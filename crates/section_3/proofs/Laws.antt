@@ -1,27 +1,23 @@
 -- What is known of a grid that a section 3 describes: its numbers have passed the tests of a grid.
-use mathlib.Core.Path.{_≡_, refl, sym, _∙_, subst}
-use mathlib.Core.Bool.{true, _&&_}
+use mathlib.Core.Path.{_≡_, sym, _∙_, subst}
+use mathlib.Core.Bool.{true}
 use mathlib.Core.List.{List}
 use Prim.Native.Nat.{ℕ, _*_, _≤_}
-use Rattle.octets.proofs.Cases.{apart, split, chosen}
+use Rattle.octets.proofs.Cases.{apart, split}
 use Rattle.section.specs.Sections.{held}
-use Rattle.refusals.specs.declared.Refusal.{Refusal}
-use Rattle.refusals.specs.declared.Why.the-variants as Why
-use Rattle.refusals.specs.Refusals.{refusal}
 use Rattle.section_3_geometry.specs.declared.Grid.{Grid}
 use Rattle.section_3_geometry.specs.Geometry.{isTaken}
 use Rattle.section_3_geometry.specs.Positions.{Measured}
 use Rattle.section_3_geometry.proofs.Laws.{taken-measured, taken-points, taken-counts}
 use Rattle.section_3.specs.declared.Radius.{Radius}
 use Rattle.section_3.specs.declared.Radius.the-variants as Radius
-use Rattle.section_3.specs.declared.Gridded.{Gridded}
 use Rattle.section_3.specs.declared.Gridded.the-variants as Gridded
-use Rattle.section_3.specs.Section3.{refused, isRegular, isScanned, radiusAt, numbersAt, ofRadius, gridAt}
+use Rattle.section_3.specs.Section3.{isRegular, isScanned, radiusAt, numbersAt, ofRadius, gridAt}
 use Rattle.section_3.proofs.Tests.{irregular, unscanned, by-radius, not-taken, taken}
 
--- A grid is no refusal, and one grid alone.
-never : {r : Refusal} {g : Grid} → Gridded.Refused r ≡ Gridded.On g → ⊥
-never {r} {g} e = apart cc
+-- A section that is not taken has no grid, and one that is has one alone.
+never : {A : Type 0} {g : Grid} → Gridded.NotTaken ≡ Gridded.On g → A
+never {A} {g} e = apart cc
 
 on-only : {f g : Grid} → Gridded.On f ≡ Gridded.On g → f ≡ g
 on-only e = cc
@@ -43,8 +39,8 @@ on file s (Radius.Metres radius) {g} e =
     let points : ℕ = held file s 7 10 in
     split (isTaken numbers points)
     (λ holds. let same : numbers ≡ g = on-only (sym (taken file s radius holds) ∙ e) in subst Known same (taken-known numbers points holds))
-    (λ fails. absurd (never (sym (not-taken file s radius fails) ∙ e)))
-on file s Radius.Unknown e = absurd (never e)
+    (λ fails. never (sym (not-taken file s radius fails) ∙ e))
+on file s Radius.Unknown e = never e
 
 -- A section that describes a grid describes one that is taken.
 pub grid-taken : (file : List ℕ) (s : ℕ) {g : Grid} →
@@ -55,19 +51,5 @@ grid-taken file s e =
     (λ regular.
     split (isScanned file s)
     (λ scanned. on file s (radiusAt file s) (sym (by-radius file s regular scanned) ∙ e))
-    (λ fails. absurd (never (sym (unscanned file s regular fails) ∙ e))))
-    (λ fails. absurd (never (sym (irregular file s fails) ∙ e)))
-
--- A section 3 is refused by one refusal alone, which stands at it.
-abbrev RefusedAt : ℕ → Gridded → Type 0
-RefusedAt s (Gridded.On g) = Unit {0}
-RefusedAt s (Gridded.Refused r) = r ≡ refusal Why.BadGrid s
-
-radius-stands : (file : List ℕ) (s : ℕ) (radius : Radius) → RefusedAt s (ofRadius file s radius)
-radius-stands file s (Radius.Metres radius) = chosen (RefusedAt s) (isTaken (numbersAt file s radius) (held file s 7 10)) (Gridded.On (numbersAt file s radius)) (refused s) tt refl
-radius-stands file s Radius.Unknown = refl
-
-pub refused-is : (file : List ℕ) (s : ℕ) {r : Refusal} → gridAt file s ≡ Gridded.Refused r → r ≡ refusal Why.BadGrid s
-unfolding gridAt
-refused-is file s said =
-    subst (RefusedAt s) said (chosen (RefusedAt s) (isRegular file s && isScanned file s) (ofRadius file s (radiusAt file s)) (refused s) (radius-stands file s (radiusAt file s)) refl)
+    (λ fails. never (sym (unscanned file s regular fails) ∙ e)))
+    (λ fails. never (sym (irregular file s fails) ∙ e))

@@ -10,7 +10,7 @@ use Rattle.section.specs.Sections.{octet, held, lengthAt}
 use Rattle.section_3_geometry.specs.Geometry.{isTaken}
 use Rattle.section_3.specs.declared.Radius.the-variants as Radius
 use Rattle.section_3.specs.declared.Gridded.the-variants as Gridded
-use Rattle.section_3.specs.Section3.{allOnes, isRegular, isScanned, radiusAt, numbersAt, ofRadius, gridAt, refused}
+use Rattle.section_3.specs.Section3.{allOnes, isRegular, isScanned, radiusAt, numbersAt, ofRadius, gridAt}
 
 -- What is known of a section of template 3.0, and of one whose points are scanned as told.
 pub record Regular (file : List ℕ) (s : ℕ) : Type 0 where
@@ -81,11 +81,11 @@ module _ (file : List ℕ) (s : ℕ) where
   other-code one six = simp (ne-eqb _ _ one, ne-eqb _ _ six)
 
   -- The tests of a section in order: where the first two hold, the radius and the numbers decide.
-  pub irregular : isRegular file s ≡ false → gridAt file s ≡ refused s
+  pub irregular : isRegular file s ≡ false → gridAt file s ≡ Gridded.NotTaken
   unfolding gridAt
   irregular e = rw e
 
-  pub unscanned : isRegular file s ≡ true → isScanned file s ≡ false → gridAt file s ≡ refused s
+  pub unscanned : isRegular file s ≡ true → isScanned file s ≡ false → gridAt file s ≡ Gridded.NotTaken
   unfolding gridAt
   unscanned e f = rw (e, f)
 
@@ -93,7 +93,7 @@ module _ (file : List ℕ) (s : ℕ) where
   unfolding gridAt
   by-radius e f = rw (e, f)
 
-  pub not-taken : (radius : ℕ) → isTaken (numbersAt file s radius) (held file s 7 10) ≡ false → ofRadius file s (Radius.Metres radius) ≡ refused s
+  pub not-taken : (radius : ℕ) → isTaken (numbersAt file s radius) (held file s 7 10) ≡ false → ofRadius file s (Radius.Metres radius) ≡ Gridded.NotTaken
   not-taken radius e = rw e
 
   pub taken : (radius : ℕ) → isTaken (numbersAt file s radius) (held file s 7 10) ≡ true → ofRadius file s (Radius.Metres radius) ≡ Gridded.On (numbersAt file s radius)

@@ -1,11 +1,10 @@
 -- Document 01, "Section 3": the octets of a section with a grid of template 3.0.
 use Prim.Native.Nat.{ℕ}
 use mathlib.Core.Bool.{Bool, not, _&&_, cond}
+use mathlib.Core.Path.{_≡_}
 use mathlib.Core.List.{List}
 use lib.Dec.{eqb}
-use Rattle.section.specs.Sections.{octet, held, heldSigned, lengthAt}
-use Rattle.refusals.specs.declared.Why.the-variants as Why
-use Rattle.refusals.specs.Refusals.{refusal}
+use Rattle.section.specs.Sections.{octet, held, heldSigned, lengthAt, Lies}
 use Rattle.section_3_geometry.specs.declared.Position.{Position}
 use Rattle.section_3_geometry.specs.declared.Grid.{Grid}
 use Rattle.section_3_geometry.specs.Geometry.{isTaken}
@@ -14,13 +13,13 @@ use Rattle.section_3.specs.declared.Radius.the-variants as Radius
 use Rattle.section_3.specs.declared.Gridded.{Gridded}
 use Rattle.section_3.specs.declared.Gridded.the-variants as Gridded
 
--- Refusal 10 stands at the section.
-abbrev pub refused : ℕ → Gridded
-refused s = Gridded.Refused (refusal Why.BadGrid s)
-
 -- Four octets, all ones.
 abbrev pub allOnes : ℕ
 allOnes = 0xffff_ffff
+
+-- A section of template 3.0 has 72 octets. This one lies in the file with all of them.
+abbrev pub LiesWhole : List ℕ → ℕ → Type 0
+LiesWhole file s = Lies file s × (lengthAt file s ≡ 72)
 
 -- The length is 72; octets 6, 11 and 12 and the template, octets 13-14, are zero.
 abbrev pub isRegular : List ℕ → ℕ → Bool
@@ -40,11 +39,11 @@ abbrev pub radiusAt : List ℕ → ℕ → Radius
 radiusAt file s = cond (eqb (octet file s 15) 1) (statedRadius file s) (cond (eqb (octet file s 15) 6) (Radius.Metres 6371229) Radius.Unknown)
 
 -- The numbers of the grid.
-abbrev pub firstAt : List ℕ → ℕ → Position
-firstAt file s = record { latitude = heldSigned file s 47 50; longitude = held file s 51 54 }
+abbrev pub firstPointAt : List ℕ → ℕ → Position
+firstPointAt file s = record { latitude = heldSigned file s 47 50; longitude = held file s 51 54 }
 
-abbrev pub lastAt : List ℕ → ℕ → Position
-lastAt file s = record { latitude = heldSigned file s 56 59; longitude = held file s 60 63 }
+abbrev pub lastPointAt : List ℕ → ℕ → Position
+lastPointAt file s = record { latitude = heldSigned file s 56 59; longitude = held file s 60 63 }
 
 abbrev pub numbersAt : List ℕ → ℕ → ℕ → Grid
 numbersAt file s radius =
@@ -53,15 +52,15 @@ numbersAt file s radius =
       radius = radius;
       ni = held file s 31 34;
       nj = held file s 35 38;
-      first = firstAt file s;
-      last = lastAt file s;
+      first = firstPointAt file s;
+      last = lastPointAt file s;
       di = held file s 64 67;
       dj = held file s 68 71;
     }
 
 abbrev pub ofRadius : List ℕ → ℕ → Radius → Gridded
-ofRadius file s (Radius.Metres radius) = cond (isTaken (numbersAt file s radius) (held file s 7 10)) (Gridded.On (numbersAt file s radius)) (refused s)
-ofRadius file s Radius.Unknown = refused s
+ofRadius file s (Radius.Metres radius) = cond (isTaken (numbersAt file s radius) (held file s 7 10)) (Gridded.On (numbersAt file s radius)) Gridded.NotTaken
+ofRadius file s Radius.Unknown = Gridded.NotTaken
 
 unfoldable pub gridAt : List ℕ → ℕ → Gridded
-gridAt file s = cond (isRegular file s && isScanned file s) (ofRadius file s (radiusAt file s)) (refused s)
+gridAt file s = cond (isRegular file s && isScanned file s) (ofRadius file s (radiusAt file s)) Gridded.NotTaken

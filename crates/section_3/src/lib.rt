@@ -1,31 +1,20 @@
 // Section 3: the grid of template 3.0, as the section's octets hold it (document 01, "Section 3").
 ghost use mathlib.Core.Path.{_≡_};
-ghost use Rattle.section.specs.Sections.{Lies, lengthAt};
-ghost use Rattle.section_3.specs.Section3.{refused, isRegular, isScanned, radiusAt, numbersAt, gridAt};
+ghost use Rattle.section.specs.Sections.{Lies};
+ghost use Rattle.section_3.specs.Section3.{LiesWhole, isRegular, isScanned, radiusAt, numbersAt, gridAt};
 use octets::FilePlace;
 use octets::OctetNumber;
-use refusals::Refusal;
-use refusals::Why;
 use section_3_geometry::Grid;
 use section_3_geometry::Position;
 
 pub enum Gridded {
     On(Grid),
-    Refused(Refusal),
+    NotTaken,
 }
 
 pub enum Radius {
     Metres(u32),
     Unknown,
-}
-
-fn refused(place: FilePlace) -> Gridded
-    ensures { λ r. ⌜ r ≡ refused (place .0) ⌝ }
-{
-    Gridded::Refused(Refusal {
-        why: Why::BadGrid,
-        place,
-    })
 }
 
 // Is it a section of template 3.0, with no list of numbers behind it?
@@ -50,7 +39,7 @@ fn is_regular(file: &[u8], at: FilePlace) -> bool
 
 // Are its angles in millionths of a degree, its steps given, and its points in rows from north to south, each from west to east?
 fn is_scanned(file: &[u8], at: FilePlace) -> bool
-    requires { ⌜ (Lies (now file) (at .0)) × (lengthAt (now file) (at .0) ≡ 72) ⌝ }
+    requires { ⌜ LiesWhole (now file) (at .0) ⌝ }
     ensures { λ r. ⌜ r ≡ isScanned (now (file .entry)) (at .0) ⌝ }
 {
     if section::held(file, at, OctetNumber(39), OctetNumber(42)) != 0 {
@@ -67,7 +56,7 @@ fn is_scanned(file: &[u8], at: FilePlace) -> bool
 
 // The earth's radius, by its code.
 fn radius_at(file: &[u8], at: FilePlace) -> Radius
-    requires { ⌜ (Lies (now file) (at .0)) × (lengthAt (now file) (at .0) ≡ 72) ⌝ }
+    requires { ⌜ LiesWhole (now file) (at .0) ⌝ }
     ensures { λ r. ⌜ r ≡ radiusAt (now (file .entry)) (at .0) ⌝ }
 {
     match section::octet(file, at, OctetNumber(15)) {
@@ -91,7 +80,7 @@ fn radius_at(file: &[u8], at: FilePlace) -> Radius
 
 // The numbers of the grid, as the section's octets hold them.
 fn numbers_at(file: &[u8], at: FilePlace, radius: u32) -> Grid
-    requires { ⌜ (Lies (now file) (at .0)) × (lengthAt (now file) (at .0) ≡ 72) ⌝ }
+    requires { ⌜ LiesWhole (now file) (at .0) ⌝ }
     ensures { λ r. ⌜ r ≡ numbersAt (now (file .entry)) (at .0) radius ⌝ }
 {
     let first = Position {
@@ -114,26 +103,26 @@ fn numbers_at(file: &[u8], at: FilePlace, radius: u32) -> Grid
     }
 }
 
-// The grid that the section 3 at `at` describes, or refusal 10.
+// The grid that the section 3 at `at` describes, or that it is not taken.
 pub fn grid_at(file: &[u8], at: FilePlace) -> Gridded
     requires { ⌜ Lies (now file) (at .0) ⌝ }
     ensures { λ r. ⌜ r ≡ gridAt (now (file .entry)) (at .0) ⌝ }
 {
     if !is_regular(file, at) {
-        return refused(at);
+        return Gridded::NotTaken;
     }
     if !is_scanned(file, at) {
-        return refused(at);
+        return Gridded::NotTaken;
     }
     match radius_at(file, at) {
         Radius::Metres(radius) => {
             let grid = numbers_at(file, at, radius);
             let points = section::held(file, at, OctetNumber(7), OctetNumber(10)) as u32;
             if !section_3_geometry::is_taken(grid, points) {
-                return refused(at);
+                return Gridded::NotTaken;
             }
             Gridded::On(grid)
         }
-        Radius::Unknown => refused(at),
+        Radius::Unknown => Gridded::NotTaken,
     }
 }

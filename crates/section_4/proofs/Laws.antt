@@ -1,5 +1,4 @@
 -- What a caller may rely on: the times of a definition are Gregorian, and an interval's end is the time that its length leads to.
-use Prim.{Unit as One}
 use Prim.Native.Nat.{ℕ}
 use mathlib.Core.Path.{_≡_, refl, ap, subst, sym, _∙_}
 use mathlib.Core.List.{List}
@@ -7,11 +6,8 @@ use native.Mathlib.Omega.{arith}
 use borrow.Author.Tests.{ltb-false}
 use lib.Dec.{eqb, ltb}
 use Rattle.octets.specs.Places.{placeOf}
-use Rattle.octets.proofs.Cases.{apart, split, chosen}
+use Rattle.octets.proofs.Cases.{apart, split}
 use Rattle.section.specs.Sections.{octet, held}
-use Rattle.refusals.specs.declared.Refusal.{Refusal}
-use Rattle.refusals.specs.declared.Why.the-variants as Why
-use Rattle.refusals.specs.Refusals.{refusal}
 use Rattle.calendar.specs.declared.Time.{Time}
 use Rattle.calendar.specs.declared.Unit.{Unit}
 use Rattle.calendar.specs.declared.Unit.the-variants as Unit
@@ -36,12 +32,12 @@ use Rattle.section_4.specs.declared.Moment.{Moment}
 use Rattle.section_4.specs.declared.Moment.the-variants as Moment
 use Rattle.section_4.specs.declared.Defined.{Defined}
 use Rattle.section_4.specs.declared.Defined.the-variants as Defined
-use Rattle.section_4.specs.Product.{refused, templateAt, isProduct, levelAt, reached, later, agreed, ending, intervalOf, productAt, definedBy, definedAt, productDefinitionAt}
+use Rattle.section_4.specs.Product.{productTemplateAt, isProduct, levelAt, reached, later, agreed, ending, intervalOf, productAt, definedBy, definedAt, productDefinitionAt}
 use Rattle.section_4.proofs.Tests.{validMoment, endMoment}
 
--- A definition is known by what it tells, a refusal is none, and what is bad is no product.
-no-definition : {A : Type 0} {r : Refusal} {d : ProductDefinition} → Defined.Refused r ≡ Defined.As d → A
-no-definition {A} {r} {d} e = apart cc
+-- A definition is known by what it tells, a section that is not taken has none, and what is bad is no product.
+no-definition : {A : Type 0} {d : ProductDefinition} → Defined.NotTaken ≡ Defined.As d → A
+no-definition {A} {d} e = apart cc
 
 same-definition : {x d : ProductDefinition} → Defined.As x ≡ Defined.As d → x ≡ d
 same-definition {x} {d} e = cc
@@ -121,7 +117,7 @@ interval-ends k Reading.NoTime moved e = no-product e
 
 product-ends : (file : List ℕ) (s : ℕ) (valid : Time) {end : Time} {kind : Kind} → productAt file s valid ≡ ProductReading.Is (Product.Interval end kind) → Ends (timeAt file (placeOf s 35)) (endMoment file s valid) end
 product-ends file s valid {end} {kind} e =
-    split (eqb (templateAt file s) 0) (λ instant. no-interval (rw instant at e))
+    split (eqb (productTemplateAt file s) 0) (λ instant. no-interval (rw instant at e))
     (λ instant.
     split (eqb (octet file s 42) 1)
     (λ one.
@@ -158,22 +154,3 @@ module _ (file : List ℕ) (s : ℕ) (reference : Time) {d : ProductDefinition} 
   -- The same by the calendar, for one of the units.
   pub end-is-reached : Gregorian reference → productDefinitionAt file s reference ≡ Defined.As d → d .product ≡ Product.Interval end kind → (u : Unit) × (plus (d .valid) (held file s 50 53) u ≡ Later.At end)
   end-is-reached h e interval = later-is-plus (d .valid) end (held file s 50 53) (octet file s 49) (end-is-later h e interval)
-
--- A section 4 is refused by one refusal alone, which stands at it.
-abbrev RefusedAt : ℕ → Defined → Type 0
-RefusedAt s (Defined.As d) = One {0}
-RefusedAt s (Defined.Refused r) = r ≡ refusal Why.BadProduct s
-
-module _ (file : List ℕ) (s : ℕ) where
-  parts-stand : (valid : Time) (l : LevelReading) (p : ProductReading) → RefusedAt s (definedBy file s valid l p)
-  parts-stand valid (LevelReading.Is level) (ProductReading.Is product) = tt
-  parts-stand valid (LevelReading.Is level) ProductReading.Bad = refl
-  parts-stand valid LevelReading.Bad p = refl
-
-  moment-stands : (m : Moment) → RefusedAt s (definedAt file s m)
-  moment-stands (Moment.At valid) = parts-stand valid (levelAt file s) (productAt file s valid)
-  moment-stands Moment.Never = refl
-
-  pub refused-is : (reference : Time) {r : Refusal} → productDefinitionAt file s reference ≡ Defined.Refused r → r ≡ refusal Why.BadProduct s
-  unfolding productDefinitionAt
-  refused-is reference said = subst (RefusedAt s) said (chosen (RefusedAt s) (isProduct file s) (definedAt file s (validMoment file s reference)) (refused s) (moment-stands (validMoment file s reference)) refl)

@@ -1,7 +1,7 @@
 -- What the tests of section 4 tell, and what follows where one of them decides.
 use Prim.Native.Nat.{ℕ, _≤_}
 use mathlib.Core.Path.{_≡_, refl, sym, ap, _∙_}
-use mathlib.Core.Bool.{Bool, true, false, _||_, cond}
+use mathlib.Core.Bool.{Bool, true, false, _||_}
 use mathlib.Core.List.{List}
 use native.Mathlib.Omega.{arith}
 use borrow.Author.Tests.{eqb-true, eq-eqb, ne-eqb}
@@ -22,7 +22,8 @@ use Rattle.section_4.specs.declared.ProductReading.{ProductReading}
 use Rattle.section_4.specs.declared.ProductReading.the-variants as ProductReading
 use Rattle.section_4.specs.declared.Moment.{Moment}
 use Rattle.section_4.specs.declared.Moment.the-variants as Moment
-use Rattle.section_4.specs.Product.{refused, templateAt, isTemplate, isProduct, levelAt, later, agreed, ending, intervalOf, intervalAt, productAt, definedBy, definedAt, productDefinitionAt}
+use Rattle.section_4.specs.declared.Defined.the-variants as Defined
+use Rattle.section_4.specs.Product.{productTemplateAt, isTemplate, isProduct, levelAt, later, agreed, ending, intervalOf, intervalAt, productAt, definedBy, definedAt, productDefinitionAt}
 
 -- The time that the forecast leads to from the reference time on, and the one that the interval's length leads to from the valid time on.
 abbrev pub validMoment : List ℕ → ℕ → Time → Moment
@@ -38,16 +39,16 @@ or-false false = refl
 module _ (file : List ℕ) (s : ℕ) where
   -- A section whose template is known has 34 octets or 58: 34 are there, and 58 where it is not template 0.
   longer : isTemplate file s ≡ true → eqb (lengthAt file s) 34 ≡ false → lengthAt file s ≡ 58
-  longer e other = eqb-true _ _ (both (eqb (lengthAt file s) 58) (eqb (templateAt file s) 8) (rw other at e) .0)
+  longer e other = eqb-true _ _ (both (eqb (lengthAt file s) 58) (eqb (productTemplateAt file s) 8) (rw other at e) .0)
 
   -- In 34 octets the template decides.
-  pub template-in-34 : lengthAt file s ≡ 34 → isTemplate file s ≡ eqb (templateAt file s) 0
-  template-in-34 length = simp (eq-eqb _ 34 length, ne-eqb (lengthAt file s) 58 (omega arith)) (or-false (eqb (templateAt file s) 0))
+  pub template-in-34 : lengthAt file s ≡ 34 → isTemplate file s ≡ eqb (productTemplateAt file s) 0
+  template-in-34 length = simp (eq-eqb _ 34 length, ne-eqb (lengthAt file s) 58 (omega arith)) (or-false (eqb (productTemplateAt file s) 0))
 
   pub template-length : isTemplate file s ≡ true → 34 ≤ lengthAt file s
   template-length e = split (eqb (lengthAt file s) 34) (λ short. omega (arith, eqb-true)) (λ short. omega (arith, longer e short))
 
-  pub interval-length : isTemplate file s ≡ true → (templateAt file s ≡ 0 → ⊥) → lengthAt file s ≡ 58
+  pub interval-length : isTemplate file s ≡ true → (productTemplateAt file s ≡ 0 → ⊥) → lengthAt file s ≡ 58
   interval-length e other = split (eqb (lengthAt file s) 34) (λ short. absurd (other (eqb-true _ _ (sym (template-in-34 (eqb-true _ _ short)) ∙ e)))) (longer e)
 
   -- A product has a template that is known.
@@ -89,22 +90,22 @@ module _ (file : List ℕ) (s : ℕ) (valid : Time) where
 
 -- The definition by its parts, in the order in which they are read.
 module _ (file : List ℕ) (s : ℕ) (reference : Time) where
-  pub no-product : isProduct file s ≡ false → productDefinitionAt file s reference ≡ refused s
+  pub no-product : isProduct file s ≡ false → productDefinitionAt file s reference ≡ Defined.NotTaken
   unfolding productDefinitionAt
-  no-product e = ap (λ (b : Bool). cond b (definedAt file s (validMoment file s reference)) (refused s)) e
+  no-product e = rw e
 
   by-moment : (m : Moment) → isProduct file s ≡ true → validMoment file s reference ≡ m → productDefinitionAt file s reference ≡ definedAt file s m
   unfolding productDefinitionAt
-  by-moment m e moved = ap (λ (b : Bool). cond b (definedAt file s (validMoment file s reference)) (refused s)) e ∙ ap (definedAt file s) moved
+  by-moment m e moved = rw e (ap (definedAt file s) moved)
 
-  pub never-valid : isProduct file s ≡ true → validMoment file s reference ≡ Moment.Never → productDefinitionAt file s reference ≡ refused s
+  pub never-valid : isProduct file s ≡ true → validMoment file s reference ≡ Moment.Never → productDefinitionAt file s reference ≡ Defined.NotTaken
   never-valid = by-moment Moment.Never
 
   module _ (valid : Time) (e : isProduct file s ≡ true) (moved : validMoment file s reference ≡ Moment.At valid) where
     by-level : (l : LevelReading) → levelAt file s ≡ l → productDefinitionAt file s reference ≡ definedBy file s valid l (productAt file s valid)
     by-level l read = by-moment (Moment.At valid) e moved ∙ ap (λ (r : LevelReading). definedBy file s valid r (productAt file s valid)) read
 
-    pub no-level : levelAt file s ≡ LevelReading.Bad → productDefinitionAt file s reference ≡ refused s
+    pub no-level : levelAt file s ≡ LevelReading.Bad → productDefinitionAt file s reference ≡ Defined.NotTaken
     no-level = by-level LevelReading.Bad
 
     pub by-product : (level : Level) (p : ProductReading) → levelAt file s ≡ LevelReading.Is level → productAt file s valid ≡ p → productDefinitionAt file s reference ≡ definedBy file s valid (LevelReading.Is level) p

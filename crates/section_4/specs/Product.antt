@@ -5,8 +5,6 @@ use mathlib.Core.List.{List}
 use lib.Dec.{eqb, leb}
 use Rattle.octets.specs.Places.{placeOf}
 use Rattle.section.specs.Sections.{octet, held, heldSigned, lengthAt}
-use Rattle.refusals.specs.declared.Why.the-variants as Why
-use Rattle.refusals.specs.Refusals.{refusal}
 use Rattle.calendar.specs.declared.Time.{Time}
 use Rattle.calendar.specs.declared.Unit.the-variants as Unit
 use Rattle.calendar.specs.declared.Reading.{Reading}
@@ -29,16 +27,12 @@ use Rattle.section_4.specs.declared.Moment.the-variants as Moment
 use Rattle.section_4.specs.declared.Defined.{Defined}
 use Rattle.section_4.specs.declared.Defined.the-variants as Defined
 
--- Refusal 11 stands at the section.
-abbrev pub refused : ℕ → Defined
-refused s = Defined.Refused (refusal Why.BadProduct s)
-
 -- Octets 8-9 hold the template: 0, an instant, in a section of 34 octets, or 8, an interval, in one of 58.
-abbrev pub templateAt : List ℕ → ℕ → ℕ
-templateAt file s = held file s 8 9
+abbrev pub productTemplateAt : List ℕ → ℕ → ℕ
+productTemplateAt file s = held file s 8 9
 
 abbrev pub isTemplate : List ℕ → ℕ → Bool
-isTemplate file s = (eqb (lengthAt file s) 34 && eqb (templateAt file s) 0) || (eqb (lengthAt file s) 58 && eqb (templateAt file s) 8)
+isTemplate file s = (eqb (lengthAt file s) 34 && eqb (productTemplateAt file s) 0) || (eqb (lengthAt file s) 58 && eqb (productTemplateAt file s) 8)
 
 -- No coordinates follow the template (octets 6-7), the forecast time of octets 19-22 is at most 2,147,483,647, there is a first surface
 -- (octet 23), and there is no second (octets 29-34 are all ones).
@@ -99,7 +93,7 @@ intervalAt file s valid =
 
 -- A product is an instant, or an interval with its end and its kind.
 abbrev pub productAt : List ℕ → ℕ → Time → ProductReading
-productAt file s valid = cond (eqb (templateAt file s) 0) (ProductReading.Is Product.Instant) (intervalAt file s valid)
+productAt file s valid = cond (eqb (productTemplateAt file s) 0) (ProductReading.Is Product.Instant) (intervalAt file s valid)
 
 -- Category, parameter and process kind stand in octets 10, 11 and 12, the first surface's type in octet 23.
 abbrev pub definedBy : List ℕ → ℕ → Time → LevelReading → ProductReading → Defined
@@ -114,13 +108,13 @@ definedBy file s valid (LevelReading.Is level) (ProductReading.Is product) =
       product = product;
       valid = valid;
     })
-definedBy file s valid (LevelReading.Is level) ProductReading.Bad = refused s
-definedBy file s valid LevelReading.Bad p = refused s
+definedBy file s valid (LevelReading.Is level) ProductReading.Bad = Defined.NotTaken
+definedBy file s valid LevelReading.Bad p = Defined.NotTaken
 
 -- The valid time is the reference time and the forecast, in the unit of octet 18.
 abbrev pub definedAt : List ℕ → ℕ → Moment → Defined
 definedAt file s (Moment.At valid) = definedBy file s valid (levelAt file s) (productAt file s valid)
-definedAt file s Moment.Never = refused s
+definedAt file s Moment.Never = Defined.NotTaken
 
 unfoldable pub productDefinitionAt : List ℕ → ℕ → Time → Defined
-productDefinitionAt file s reference = cond (isProduct file s) (definedAt file s (later reference (held file s 19 22) (octet file s 18))) (refused s)
+productDefinitionAt file s reference = cond (isProduct file s) (definedAt file s (later reference (held file s 19 22) (octet file s 18))) Defined.NotTaken

@@ -4,7 +4,7 @@ ghost use mathlib.Core.Bool.{true};
 ghost use Prim.Native.Nat.{_≤_};
 ghost use Rattle.section.specs.Sections.{Lies, lengthAt};
 ghost use Rattle.calendar.specs.Calendar.{Gregorian, ordered};
-ghost use Rattle.section_4.specs.Product.{refused, isTemplate, isProduct, levelAt, reached, later, agreed, intervalAt, productAt, productDefinitionAt};
+ghost use Rattle.section_4.specs.Product.{isTemplate, isProduct, levelAt, reached, later, agreed, intervalAt, productAt, productDefinitionAt};
 use calendar::Later;
 use calendar::Order;
 use calendar::Reading;
@@ -13,8 +13,6 @@ use calendar::Unit;
 use octets::FilePlace;
 use octets::OctetNumber;
 use octets::Signed;
-use refusals::Refusal;
-use refusals::Why;
 
 // The level of the first surface: the scaled level over 10 ^ factor, or none, as for the ground and mean sea level.
 pub enum Level {
@@ -47,7 +45,7 @@ pub struct ProductDefinition {
 
 pub enum Defined {
     As(ProductDefinition),
-    Refused(Refusal),
+    NotTaken,
 }
 
 pub enum LevelReading {
@@ -64,15 +62,6 @@ pub enum ProductReading {
 pub enum Moment {
     At(Time),
     Never,
-}
-
-fn refused(place: FilePlace) -> Defined
-    ensures { λ r. ⌜ r ≡ refused (place .0) ⌝ }
-{
-    Defined::Refused(Refusal {
-        why: Why::BadProduct,
-        place,
-    })
 }
 
 // Is it template 4.0 in 34 octets, or template 4.8 in 58?
@@ -196,24 +185,24 @@ fn product_at(file: &[u8], at: FilePlace, valid: Time) -> ProductReading
     interval_at(file, at, valid)
 }
 
-// What the section 4 at `at` says of a field whose reference time is `reference`, or refusal 11.
+// What the section 4 at `at` says of a field whose reference time is `reference`, or that it is not taken.
 pub fn product_definition_at(file: &[u8], at: FilePlace, reference: Time) -> Defined
     requires { ⌜ (Lies (now file) (at .0)) × (Gregorian reference) ⌝ }
     ensures { λ r. ⌜ r ≡ productDefinitionAt (now (file .entry)) (at .0) reference ⌝ }
 {
     if !is_product(file, at) {
-        return refused(at);
+        return Defined::NotTaken;
     }
     let count = section::held(file, at, OctetNumber(19), OctetNumber(22)) as u32;
     let Moment::At(valid) = later(reference, count, section::octet(file, at, OctetNumber(18)))
     else {
-        return refused(at);
+        return Defined::NotTaken;
     };
     let LevelReading::Is(level) = level_at(file, at) else {
-        return refused(at);
+        return Defined::NotTaken;
     };
     let ProductReading::Is(product) = product_at(file, at, valid) else {
-        return refused(at);
+        return Defined::NotTaken;
     };
     let category = section::octet(file, at, OctetNumber(10));
     let parameter = section::octet(file, at, OctetNumber(11));

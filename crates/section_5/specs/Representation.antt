@@ -6,8 +6,6 @@ use lib.Dec.{eqb, leb}
 use lib.Ieee.{binary32, ofBits}
 use lib.Ieee.Scale.{finite}
 use Rattle.section.specs.Sections.{octet, held, heldSigned, lengthAt}
-use Rattle.refusals.specs.declared.Why.the-variants as Why
-use Rattle.refusals.specs.Refusals.{refusal}
 use Rattle.section_5_groups.specs.Groups.{groupingAt, isDifferenced, isGrouping}
 use Rattle.section_5.specs.declared.Template.{Template}
 use Rattle.section_5.specs.declared.Template.the-variants as Template
@@ -16,10 +14,6 @@ use Rattle.section_5.specs.declared.TemplateReading.the-variants as Temp
 use Rattle.section_5.specs.declared.Representation.{Representation}
 use Rattle.section_5.specs.declared.Represented.{Represented}
 use Rattle.section_5.specs.declared.Represented.the-variants as Represented
-
--- Refusal 12 stands at the section.
-abbrev pub refused : ℕ → Represented
-refused s = Represented.Refused (refusal Why.BadRepresentation s)
 
 -- R, in octets 12-15, is finite; E, in 16-17, is from -127 to 127, and D, in 18-19, from -22 to 22; a number has 0 to 31 bits (octet 20), and
 -- the values were doubles before (octet 21 is zero).
@@ -35,8 +29,8 @@ abbrev pub complexAt : List ℕ → ℕ → TemplateReading
 complexAt file s = cond (isDifferenced file s && isGrouping (groupingAt file s) (held file s 6 9)) (TemplateReading.Is (Template.Complex (groupingAt file s))) TemplateReading.Bad
 
 -- Octets 10-11 hold the template: 0, simple packing, in a section of 21 octets, or 3, complex packing with spatial differencing, in one of 49.
-abbrev pub templateAt : List ℕ → ℕ → TemplateReading
-templateAt file s =
+abbrev pub dataTemplateAt : List ℕ → ℕ → TemplateReading
+dataTemplateAt file s =
     cond (eqb (lengthAt file s) 21 && eqb (held file s 10 11) 0) (TemplateReading.Is Template.Simple)
     (cond (eqb (lengthAt file s) 49 && eqb (held file s 10 11) 3) (complexAt file s)
     TemplateReading.Bad)
@@ -54,11 +48,11 @@ representationWith file s template =
     }
 
 abbrev pub representedBy : List ℕ → ℕ → TemplateReading → Represented
-representedBy file s (TemplateReading.Is template) = cond (isScaled file s) (Represented.By (representationWith file s template)) (refused s)
-representedBy file s TemplateReading.Bad = refused s
+representedBy file s (TemplateReading.Is template) = cond (isScaled file s) (Represented.By (representationWith file s template)) Represented.NotTaken
+representedBy file s TemplateReading.Bad = Represented.NotTaken
 
 unfoldable pub representationAt : List ℕ → ℕ → Represented
-representationAt file s = representedBy file s (templateAt file s)
+representationAt file s = representedBy file s (dataTemplateAt file s)
 
 -- The number of each data template.
 abbrev pub templateNumber : Template → ℕ

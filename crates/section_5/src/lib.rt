@@ -2,12 +2,10 @@
 ghost use mathlib.Core.Path.{_≡_};
 ghost use Prim.Native.Nat.{_≤_};
 ghost use Rattle.section.specs.Sections.{Lies, lengthAt};
-ghost use Rattle.section_5.specs.Representation.{refused, isScaled, complexAt, templateAt, representationAt};
+ghost use Rattle.section_5.specs.Representation.{isScaled, complexAt, dataTemplateAt, representationAt};
 use octets::FilePlace;
 use octets::OctetNumber;
 use octets::Signed;
-use refusals::Refusal;
-use refusals::Why;
 use section_5_groups::Grouping;
 
 // The data template: 5.0, simple packing, or 5.3, complex packing with spatial differencing.
@@ -28,21 +26,12 @@ pub struct Representation {
 
 pub enum Represented {
     By(Representation),
-    Refused(Refusal),
+    NotTaken,
 }
 
 pub enum TemplateReading {
     Is(Template),
     Bad,
-}
-
-fn refused(place: FilePlace) -> Represented
-    ensures { λ r. ⌜ r ≡ refused (place .0) ⌝ }
-{
-    Represented::Refused(Refusal {
-        why: Why::BadRepresentation,
-        place,
-    })
 }
 
 // Are R, E, D and the bits of a number within their limits?
@@ -88,7 +77,7 @@ fn complex_at(file: &[u8], at: FilePlace) -> TemplateReading
 // The data template, by the section's length and octets 10-11.
 fn template_at(file: &[u8], at: FilePlace) -> TemplateReading
     requires { ⌜ Lies (now file) (at .0) ⌝ }
-    ensures { λ r. ⌜ r ≡ templateAt (now (file .entry)) (at .0) ⌝ }
+    ensures { λ r. ⌜ r ≡ dataTemplateAt (now (file .entry)) (at .0) ⌝ }
 {
     match section::length_of(file, at) {
         21 => {
@@ -107,16 +96,16 @@ fn template_at(file: &[u8], at: FilePlace) -> TemplateReading
     }
 }
 
-// What the section 5 at `at` says, or refusal 12.
+// What the section 5 at `at` says, or that it is not taken.
 pub fn representation_at(file: &[u8], at: FilePlace) -> Represented
     requires { ⌜ Lies (now file) (at .0) ⌝ }
     ensures { λ r. ⌜ r ≡ representationAt (now (file .entry)) (at .0) ⌝ }
 {
     let TemplateReading::Is(template) = template_at(file, at) else {
-        return refused(at);
+        return Represented::NotTaken;
     };
     if !is_scaled(file, at) {
-        return refused(at);
+        return Represented::NotTaken;
     }
     let n = section::held(file, at, OctetNumber(6), OctetNumber(9)) as u32;
     let r = section::held(file, at, OctetNumber(12), OctetNumber(15)) as u32;

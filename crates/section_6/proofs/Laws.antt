@@ -14,21 +14,18 @@ use borrow.Author.Tests.{eq-eqb, ne-eqb, eqb-true}
 use Rattle.octets.specs.declared.FilePlace.{FilePlace}
 use Rattle.octets.specs.Places.{at}
 use Rattle.octets.specs.Numbers.{numberAt}
-use Rattle.octets.proofs.Cases.{apart, split, chosen}
+use Rattle.octets.proofs.Cases.{apart, split}
 use Rattle.octets.proofs.Laws.{number-fits, fits-eight}
 use Rattle.section.specs.Sections.{Lies, octet, lengthAt}
 use Rattle.bits.specs.Bits.{bitAt, bitsAt, octetsOf}
 use Rattle.bits.proofs.Laws.{bit-lt, bits-of-octets}
-use Rattle.refusals.specs.declared.Refusal.{Refusal}
-use Rattle.refusals.specs.declared.Why.the-variants as Why
-use Rattle.refusals.specs.Refusals.{refusal}
 use Rattle.tiling_sections.specs.declared.Bitmap.{Bitmap}
 use Rattle.tiling_sections.specs.declared.Bitmap.the-variants as Bitmap
 use Rattle.section_6.specs.declared.Presence as declared
 use Rattle.section_6.specs.declared.Presence.the-variants as Presence
 use Rattle.section_6.specs.declared.Marked.{Marked}
 use Rattle.section_6.specs.declared.Marked.the-variants as Marked
-use Rattle.section_6.specs.Presence.{refused, bitmapLength, bitmapIn, onesBefore, isBitmap, ownAt, earlierAt, allAt, withoutBitmap, presenceAt, presentBefore}
+use Rattle.section_6.specs.Presence.{bitmapLength, bitmapIn, onesBefore, isBitmap, ownAt, earlierAt, allOf, withoutBitmap, presenceAt, presentBefore}
 
 -- No more bits are set than there are.
 pub ones-most : (run : List ℕ) (n : ℕ) → onesBefore run n ≤ n
@@ -100,28 +97,28 @@ Told file s bitmap points n Presence.All = points ≡ n
 Told file s bitmap points n (Presence.Own q) = (q ≡ at s) × Fitting file (q .0) points n
 Told file s bitmap points n (Presence.Earlier q) = (bitmap ≡ Bitmap.At q) × Fitting file (q .0) points n
 
--- Where a test that refuses is passed, it holds, and the answer stands behind it.
-passed : (s : ℕ) (test : Bool) {answer : Marked} {p : declared.Presence} → cond test answer (refused s) ≡ Marked.As p → (test ≡ true) × (answer ≡ Marked.As p)
-passed s true e = (refl, e)
-passed s false e = apart cc
+-- Where a test is passed, it holds, and the answer stands behind it.
+passed : (test : Bool) {answer : Marked} {p : declared.Presence} → cond test answer Marked.NotTaken ≡ Marked.As p → (test ≡ true) × (answer ≡ Marked.As p)
+passed true e = (refl, e)
+passed false e = apart cc
 
 module _ (file : List ℕ) (s points n : ℕ) {p : declared.Presence} where
   own-told : (bitmap : Bitmap) → ownAt file s points n ≡ Marked.As p → Told file s bitmap points n p
   own-told bitmap e =
-      let own = passed s (isBitmap file s points n) e in
+      let own = passed (isBitmap file s points n) e in
       let same : Presence.Own (at s) ≡ p = cc (own .1) in
       subst (Told file s bitmap points n) same (refl, is-bitmap-tells file s points n (own .0))
 
-  earlier-told : (bitmap : Bitmap) → earlierAt file s bitmap points n ≡ Marked.As p → Told file s bitmap points n p
+  earlier-told : (bitmap : Bitmap) → earlierAt file bitmap points n ≡ Marked.As p → Told file s bitmap points n p
   earlier-told Bitmap.Absent e = apart cc
   earlier-told (Bitmap.At q) e =
-      let earlier = passed s (isBitmap file (q .0) points n) e in
+      let earlier = passed (isBitmap file (q .0) points n) e in
       let same : Presence.Earlier q ≡ p = cc (earlier .1) in
       subst (Told file s (Bitmap.At q) points n) same (refl, is-bitmap-tells file (q .0) points n (earlier .0))
 
-  all-told : (bitmap : Bitmap) → allAt s points n ≡ Marked.As p → Told file s bitmap points n p
+  all-told : (bitmap : Bitmap) → allOf points n ≡ Marked.As p → Told file s bitmap points n p
   all-told bitmap e =
-      let all = passed s (eqb points n) e in
+      let all = passed (eqb points n) e in
       let same : Presence.All ≡ p = cc (all .1) in
       subst (Told file s bitmap points n) same (eqb-true points n (all .0))
 
@@ -155,9 +152,9 @@ module _ (file : List ℕ) (s : ℕ) (bitmap : Bitmap) (points n : ℕ) where
       (λ i.
       split (eqb (octet file s 6) 0) (λ j. own-told file s points n bitmap (rw (i, j) at e))
       (λ j.
-      let six = passed s (eqb (lengthAt file s) 6) (rw (i, j) at e) in
+      let six = passed (eqb (lengthAt file s) 6) (rw (i, j) at e) in
       split (eqb (octet file s 6) 254) (λ k. earlier-told file s points n bitmap (rw k at (six .1)))
-      (λ k. all-told file s points n bitmap (passed s (eqb (octet file s 6) 255) (rw k at (six .1)) .1))))
+      (λ k. all-told file s points n bitmap (passed (eqb (octet file s 6) 255) (rw k at (six .1)) .1))))
 
   told-present : (p : declared.Presence) → Told file s bitmap points n p → n ≡ presentBefore file p points points
   told-present Presence.All told = sym (present-all file points points ∙ told)
@@ -183,26 +180,3 @@ module _ (file : List ℕ) (s : ℕ) (bitmap : Bitmap) (points n : ℕ) where
 
   pub marked-earlier : {q : FilePlace} → presenceAt file s bitmap points n ≡ Marked.As (Presence.Earlier q) → (bitmap ≡ Bitmap.At q) × (lengthAt file (q .0) ≡ bitmapLength points)
   marked-earlier e = let told = marked e in (told .0, told .1 .length)
-
--- A section 6 is refused by one refusal alone, which stands at it, also where the fault is in another section's bitmap.
-abbrev RefusedAt : ℕ → Marked → Type 0
-RefusedAt s (Marked.As p) = Unit {0}
-RefusedAt s (Marked.Refused r) = r ≡ refusal Why.BadBitmap s
-
-module _ (file : List ℕ) (s points n : ℕ) where
-  earlier-stands : (bitmap : Bitmap) → RefusedAt s (earlierAt file s bitmap points n)
-  earlier-stands Bitmap.Absent = refl
-  earlier-stands (Bitmap.At p) = chosen (RefusedAt s) (isBitmap file (p .0) points n) (Marked.As (Presence.Earlier p)) (refused s) tt refl
-
-  presence-stands : (bitmap : Bitmap) → RefusedAt s (presenceAt file s bitmap points n)
-  unfolding presenceAt
-  presence-stands bitmap =
-      let own = chosen (RefusedAt s) (isBitmap file s points n) (Marked.As (Presence.Own (at s))) (refused s) tt refl in
-      let all = chosen (RefusedAt s) (eqb points n) (Marked.As Presence.All) (refused s) tt refl in
-      let all-only = chosen (RefusedAt s) (eqb (octet file s 6) 255) (allAt s points n) (refused s) all refl in
-      let without = chosen (RefusedAt s) (eqb (octet file s 6) 254) (earlierAt file s bitmap points n) _ (earlier-stands bitmap) all-only in
-      let six-octets = chosen (RefusedAt s) (eqb (lengthAt file s) 6) (withoutBitmap file s bitmap points n) (refused s) without refl in
-      chosen (RefusedAt s) (ltb (lengthAt file s) 6) (refused s) _ refl (chosen (RefusedAt s) (eqb (octet file s 6) 0) (ownAt file s points n) _ own six-octets)
-
-pub refused-is : (file : List ℕ) (s : ℕ) (bitmap : Bitmap) (points n : ℕ) {r : Refusal} → presenceAt file s bitmap points n ≡ Marked.Refused r → r ≡ refusal Why.BadBitmap s
-refused-is file s bitmap points n said = subst (RefusedAt s) said (presence-stands file s points n bitmap)

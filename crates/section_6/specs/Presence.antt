@@ -9,8 +9,6 @@ use Rattle.octets.specs.declared.FilePlace.{FilePlace}
 use Rattle.octets.specs.Places.{at, placeOf}
 use Rattle.section.specs.Sections.{octet, lengthAt, Lies}
 use Rattle.bits.specs.Bits.{bitAt, octetsOf}
-use Rattle.refusals.specs.declared.Why.the-variants as Why
-use Rattle.refusals.specs.Refusals.{refusal}
 use Rattle.tiling_sections.specs.declared.Bitmap.{Bitmap}
 use Rattle.tiling_sections.specs.declared.Bitmap.the-variants as Bitmap
 use Rattle.section_6.specs.declared.Presence as declared
@@ -21,10 +19,6 @@ use Rattle.section_6.specs.declared.Marked.the-variants as Marked
 -- Where a bitmap is in force, the section that has it lies in the file.
 abbrev pub Stored : List ℕ → Bitmap → Type 0
 Stored file bitmap = (p : FilePlace) → bitmap ≡ Bitmap.At p → Lies file (p .0)
-
--- Refusal 13 stands at the field's own section, also where the fault is in the bitmap that it refers to.
-abbrev pub refused : ℕ → Marked
-refused s = Marked.Refused (refusal Why.BadBitmap s)
 
 -- A bitmap has a bit for each point, from octet 7 of its section on. So the section's length is 6 octets and those of the bits.
 abbrev pub bitmapLength : ℕ → ℕ
@@ -44,30 +38,30 @@ isBitmap file p points n = eqb (lengthAt file p) (bitmapLength points) && eqb (o
 
 -- Indicator 0: the section has a bitmap of its own.
 abbrev pub ownAt : List ℕ → ℕ → ℕ → ℕ → Marked
-ownAt file s points n = cond (isBitmap file s points n) (Marked.As (Presence.Own (at s))) (refused s)
+ownAt file s points n = cond (isBitmap file s points n) (Marked.As (Presence.Own (at s))) Marked.NotTaken
 
 -- Indicator 254: the latest bitmap of the grid is used again.
-abbrev pub earlierAt : List ℕ → ℕ → Bitmap → ℕ → ℕ → Marked
-earlierAt file s Bitmap.Absent points n = refused s
-earlierAt file s (Bitmap.At p) points n = cond (isBitmap file (p .0) points n) (Marked.As (Presence.Earlier p)) (refused s)
+abbrev pub earlierAt : List ℕ → Bitmap → ℕ → ℕ → Marked
+earlierAt file Bitmap.Absent points n = Marked.NotTaken
+earlierAt file (Bitmap.At p) points n = cond (isBitmap file (p .0) points n) (Marked.As (Presence.Earlier p)) Marked.NotTaken
 
 -- Indicator 255: all points are present.
-abbrev pub allAt : ℕ → ℕ → ℕ → Marked
-allAt s points n = cond (eqb points n) (Marked.As Presence.All) (refused s)
+abbrev pub allOf : ℕ → ℕ → Marked
+allOf points n = cond (eqb points n) (Marked.As Presence.All) Marked.NotTaken
 
 -- The indicator is octet 6. A section of 5 octets has none.
 abbrev pub withoutBitmap : List ℕ → ℕ → Bitmap → ℕ → ℕ → Marked
 withoutBitmap file s bitmap points n =
-    cond (eqb (octet file s 6) 254) (earlierAt file s bitmap points n)
-    (cond (eqb (octet file s 6) 255) (allAt s points n)
-    (refused s))
+    cond (eqb (octet file s 6) 254) (earlierAt file bitmap points n)
+    (cond (eqb (octet file s 6) 255) (allOf points n)
+    Marked.NotTaken)
 
 unfoldable pub presenceAt : List ℕ → ℕ → Bitmap → ℕ → ℕ → Marked
 presenceAt file s bitmap points n =
-    cond (ltb (lengthAt file s) 6) (refused s)
+    cond (ltb (lengthAt file s) 6) Marked.NotTaken
     (cond (eqb (octet file s 6) 0) (ownAt file s points n)
     (cond (eqb (lengthAt file s) 6) (withoutBitmap file s bitmap points n)
-    (refused s)))
+    Marked.NotTaken))
 
 -- The bitmap indicator of each case.
 abbrev pub indicatorOf : declared.Presence → ℕ

@@ -3,12 +3,10 @@ ghost use mathlib.Core.Path.{_≡_};
 ghost use Prim.Native.Nat.{_*_, _^_, _≤_, _<_};
 ghost use lib.ListN.{length};
 ghost use Rattle.section.specs.Sections.{Lies, lengthAt};
-ghost use Rattle.section_6.specs.Presence.{Stored, refused, bitmapLength, bitmapIn, onesBefore, isBitmap, withoutBitmap, presenceAt};
+ghost use Rattle.section_6.specs.Presence.{Stored, bitmapLength, bitmapIn, onesBefore, isBitmap, withoutBitmap, presenceAt};
 use octets::BitPlace;
 use octets::FilePlace;
 use octets::OctetNumber;
-use refusals::Refusal;
-use refusals::Why;
 use tiling_sections::Bitmap;
 
 // Which points are present: all, those of the section's own bitmap, or those of an earlier section's. A bitmap is told by the place of the
@@ -21,16 +19,7 @@ pub enum Presence {
 
 pub enum Marked {
     As(Presence),
-    Refused(Refusal),
-}
-
-fn refused(place: FilePlace) -> Marked
-    ensures { λ r. ⌜ r ≡ refused (place .0) ⌝ }
-{
-    Marked::Refused(Refusal {
-        why: Why::BadBitmap,
-        place,
-    })
+    NotTaken,
 }
 
 // The bitmap in the section 6 at `section`, as a part of the file.
@@ -93,24 +82,24 @@ fn without_bitmap(file: &[u8], at: FilePlace, bitmap: Bitmap, points: u32, n: u3
     match section::octet(file, at, OctetNumber(6)) {
         254 => {
             let Bitmap::At(earlier) = bitmap else {
-                return refused(at);
+                return Marked::NotTaken;
             };
             if !is_bitmap(file, earlier, points, n) {
-                return refused(at);
+                return Marked::NotTaken;
             }
             Marked::As(Presence::Earlier(earlier))
         }
         255 => {
             if points != n {
-                return refused(at);
+                return Marked::NotTaken;
             }
             Marked::As(Presence::All)
         }
-        _ => refused(at),
+        _ => Marked::NotTaken,
     }
 }
 
-// Which points are present by the section 6 at `at`, where `bitmap` is in force and `n` values are packed, or refusal 13.
+// Which points are present by the section 6 at `at`, where `bitmap` is in force and `n` values are packed, or that it is not taken.
 pub fn presence_at(file: &[u8], at: FilePlace, bitmap: Bitmap, points: u32, n: u32) -> Marked
     requires { ⌜ Lies (now file) (at .0) ⌝ }
     requires { ⌜ Stored (now file) bitmap ⌝ }
@@ -118,16 +107,16 @@ pub fn presence_at(file: &[u8], at: FilePlace, bitmap: Bitmap, points: u32, n: u
 {
     let length = section::length_of(file, at);
     if length < 6 {
-        return refused(at);
+        return Marked::NotTaken;
     }
     if section::octet(file, at, OctetNumber(6)) == 0 {
         if !is_bitmap(file, at, points, n) {
-            return refused(at);
+            return Marked::NotTaken;
         }
         return Marked::As(Presence::Own(at));
     }
     if length != 6 {
-        return refused(at);
+        return Marked::NotTaken;
     }
     without_bitmap(file, at, bitmap, points, n)
 }

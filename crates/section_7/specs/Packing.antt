@@ -1,4 +1,4 @@
--- Document 01, "Section 7": whether the groups of a section add up, and how long the section is.
+-- Document 01, "Section 7": whether the groups of a section add up, how long the section is, and what it holds.
 use Prim.Native.Nat.{ℕ, zero, suc, _+_, _-_, _*_, _≤_}
 use mathlib.Core.Bool.{Bool, true, false, _&&_, cond}
 use mathlib.Core.List.{List}
@@ -10,9 +10,13 @@ use Rattle.section_5.specs.declared.Template.{Template}
 use Rattle.section_5.specs.declared.Template.the-variants as Template
 use Rattle.section_5.specs.declared.Representation.{Representation}
 use Rattle.section_7_layout.specs.declared.Layout.{Layout}
-use Rattle.section_7_layout.specs.Runs.{layoutOf, widthOf, lengthOf, Limited}
+use Rattle.section_7_layout.specs.Runs.{differencingAt, layoutOf, widthOf, lengthOf, Limited}
 use Rattle.section_7.specs.declared.Plan.{Plan}
 use Rattle.section_7.specs.declared.Plan.the-variants as Plan
+use Rattle.section_7.specs.declared.Groups.{Groups}
+use Rattle.section_7.specs.declared.Data.the-variants as Data
+use Rattle.section_7.specs.declared.Packed.{Packed}
+use Rattle.section_7.specs.declared.Packed.the-variants as Packed
 
 -- Simple packing: N numbers of so many bits each, behind the section's five octets.
 abbrev pub simpleLength : ℕ → ℕ → ℕ
@@ -44,13 +48,23 @@ endsWith length at Plan.Bad = false
 abbrev pub isGrouped : List ℕ → ℕ → ℕ → ℕ → Grouping → Bool
 isGrouped file s n bits g = endsWith (lengthAt file s) (layoutOf bits g) (planOf (octetsIn file s) (layoutOf bits g) g n)
 
--- The section at s holds the N values of a representation, and nothing else.
-abbrev pub packedBy : List ℕ → ℕ → ℕ → ℕ → Template → Bool
-packedBy file s n bits Template.Simple = eqb (lengthAt file s) (simpleLength n bits)
-packedBy file s n bits (Template.Complex g) = isGrouped file s n bits g
+-- The groups of the section at s.
+abbrev pub groupsIn : List ℕ → ℕ → ℕ → Grouping → Groups
+groupsIn file s bits g = record { layout = layoutOf bits g; grouping = g; bits = bits; differencing = differencingAt file s (g .extra) }
 
-unfoldable pub isPacked : List ℕ → ℕ → Representation → Bool
-isPacked file s r = packedBy file s (r .n) (r .bits) (r .template)
+-- What the section at s holds. It is taken where it holds the N values of a representation, and nothing else.
+abbrev pub simpleAt : List ℕ → ℕ → ℕ → ℕ → Packed
+simpleAt file s n bits = cond (eqb (lengthAt file s) (simpleLength n bits)) (Packed.As Data.Simple) Packed.NotTaken
+
+abbrev pub groupedAt : List ℕ → ℕ → ℕ → ℕ → Grouping → Packed
+groupedAt file s n bits g = cond (isGrouped file s n bits g) (Packed.As (Data.Complex (groupsIn file s bits g))) Packed.NotTaken
+
+abbrev pub packedBy : List ℕ → ℕ → ℕ → ℕ → Template → Packed
+packedBy file s n bits Template.Simple = simpleAt file s n bits
+packedBy file s n bits (Template.Complex g) = groupedAt file s n bits g
+
+unfoldable pub dataAt : List ℕ → ℕ → Representation → Packed
+dataAt file s r = packedBy file s (r .n) (r .bits) (r .template)
 
 -- What section 5 has judged before, so that no sum here leaves the machine's numbers.
 abbrev pub LimitedBy : ℕ → Template → Type 0

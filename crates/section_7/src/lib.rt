@@ -1,14 +1,34 @@
-// Section 7: whether its groups add up, and whether the section holds the packed numbers of a field and nothing else (document 01, "Section 7").
+// Section 7: what it holds. These are the packed numbers of a field and nothing else, and their groups add up (document 01, "Section 7").
 ghost use mathlib.Core.Path.{_≡_};
-ghost use Prim.Native.Nat.{_<_, _≤_, _^_};
 ghost use Rattle.section.specs.Sections.{Lies};
-ghost use Rattle.section_7_layout.specs.Runs.{Limited};
-ghost use Rattle.section_7.specs.Packing.{planOf, isGrouped, isPacked, LimitedBy};
+ghost use Rattle.section_7_layout.specs.Runs.{StartsNear, Limited};
+ghost use Rattle.section_7.specs.Packing.{planOf, groupedAt, dataAt, LimitedBy};
 use octets::FilePlace;
 use section_5::Representation;
 use section_5::Template;
 use section_5_groups::Grouping;
+use section_7_layout::Differencing;
 use section_7_layout::Layout;
+
+// What is known of all groups: where their runs lie, how their widths and lengths are told, the bits of a reference, and what stands before
+// them.
+pub struct Groups {
+    pub layout: Layout,
+    pub grouping: Grouping,
+    pub bits: u32,
+    pub differencing: Differencing,
+}
+
+// What section 7 holds: numbers of so many bits one after the other, or groups of them with their plan.
+pub enum Data {
+    Simple,
+    Complex(Groups),
+}
+
+pub enum Packed {
+    As(Data),
+    NotTaken,
+}
 
 // How many bits the packed values of all groups take, where the groups are sound and have as many values as they must.
 pub enum Plan {
@@ -18,8 +38,7 @@ pub enum Plan {
 
 // The plan of the groups, for n values.
 fn plan_of(run: &[u8], layout: Layout, grouping: Grouping, n: u32) -> Plan
-    requires { ⌜ (1 ≤ layout .widths .0) × (layout .widths .0 < 2 ^ 40) × (1 ≤ layout .lengths .0) × (layout .lengths .0 < 2 ^ 40) ⌝ }
-    requires { ⌜ Limited 0 grouping ⌝ }
+    requires { ⌜ (StartsNear (layout .widths)) × (StartsNear (layout .lengths)) × (Limited 0 grouping) ⌝ }
     ensures { λ r. ⌜ r ≡ planOf (now (run .entry)) layout grouping n ⌝ }
 {
     let mut i: u32 = 0;
@@ -47,34 +66,49 @@ fn plan_of(run: &[u8], layout: Layout, grouping: Grouping, n: u32) -> Plan
     Plan::Bits(bits)
 }
 
-// Does the section hold n values in such groups, and nothing else?
-fn is_grouped(file: &[u8], at: FilePlace, n: u32, bits: u32, grouping: Grouping) -> bool
+// The groups of the section, where it holds n values in them, and nothing else.
+fn grouped_at(file: &[u8], at: FilePlace, n: u32, bits: u32, grouping: Grouping) -> Packed
     requires { ⌜ (Lies (now file) (at .0)) × (Limited bits grouping) ⌝ }
-    ensures { λ r. ⌜ r ≡ isGrouped (now (file .entry)) (at .0) n bits grouping ⌝ }
+    ensures { λ r. ⌜ r ≡ groupedAt (now (file .entry)) (at .0) n bits grouping ⌝ }
 {
     let length = section::length_of(file, at);
     let layout = section_7_layout::layout_of(bits, grouping);
     // A section that ends before its packed values is too short, whatever the groups are: they are not read.
     let head = layout.packed.0 - 1;
     if length < head {
-        return false;
+        return Packed::NotTaken;
     }
-    match plan_of(section::octets_in(file, at), layout, grouping, n) {
-        Plan::Bits(packed) => length as u64 == head as u64 + bits::octets_of(packed),
-        Plan::Bad => false,
+    let Plan::Bits(packed) = plan_of(section::octets_in(file, at), layout, grouping, n) else {
+        return Packed::NotTaken;
+    };
+    if length as u64 != head as u64 + bits::octets_of(packed) {
+        return Packed::NotTaken;
     }
+    let differencing = section_7_layout::differencing_at(file, at, grouping.extra);
+    Packed::As(Data::Complex(Groups {
+        layout,
+        grouping,
+        bits,
+        differencing,
+    }))
 }
 
-// Does the section 7 at `at` hold the values that the representation tells, and nothing else?
-pub fn is_packed(file: &[u8], at: FilePlace, representation: Representation) -> bool
+// What the section 7 at `at` holds, or that it is not taken: it must hold the values that the representation tells, and nothing else.
+pub fn data_at(file: &[u8], at: FilePlace, representation: Representation) -> Packed
     requires { ⌜ (Lies (now file) (at .0)) × (LimitedBy (representation .bits) (representation .template)) ⌝ }
-    ensures { λ r. ⌜ r ≡ isPacked (now (file .entry)) (at .0) representation ⌝ }
+    ensures { λ r. ⌜ r ≡ dataAt (now (file .entry)) (at .0) representation ⌝ }
 {
     let template = representation.template;
     match template {
-        Template::Simple => section::length_of(file, at) as u64
-            == 5 + bits::octets_of_run(representation.n, representation.bits),
-        Template::Complex(grouping) => is_grouped(
+        Template::Simple => {
+            if section::length_of(file, at) as u64
+                != 5 + bits::octets_of_run(representation.n, representation.bits)
+            {
+                return Packed::NotTaken;
+            }
+            Packed::As(Data::Simple)
+        }
+        Template::Complex(grouping) => grouped_at(
             file,
             at,
             representation.n,

@@ -1,8 +1,9 @@
 -- Document 01, "Section 7": where the runs of a section's groups lie, and what stands before them.
-use Prim.Native.Nat.{ℕ, _+_, _*_, _≤_}
+use Prim.Native.Nat.{ℕ, _+_, _*_, _^_, _≤_, _<_}
 use mathlib.Core.Bool.{cond}
 use mathlib.Core.List.{List}
 use lib.Dec.{eqb}
+use Rattle.octets.specs.declared.OctetNumber.{OctetNumber}
 use Rattle.octets.specs.Places.{firstBit}
 use Rattle.section.specs.Sections.{held, heldSigned}
 use Rattle.bits.specs.Bits.{bitsAt, octetsOf}
@@ -51,10 +52,15 @@ scaledLength run at g i = bitsAt run (firstBit (at .lengths .0) + i * g .lengths
 abbrev pub lengthOf : List ℕ → Layout → Grouping → ℕ → ℕ
 lengthOf run at g i = cond (eqb (i + 1) (g .groups)) (g .lengths .last) (g .lengths .reference + g .lengths .increment * scaledLength run at g i)
 
+-- A run starts on one of its section's first 2^40 octets, so that the places of its bits are in the machine's numbers.
+abbrev pub StartsNear : OctetNumber → Type 0
+StartsNear first = (1 ≤ first .0) × (first .0 < 2 ^ 40)
+
 -- What section 5 has judged before, so that no sum here leaves the machine's numbers.
 pub record Limited (bits : ℕ) (g : Grouping) : Type 0 where
   pub ofNumbers : bits ≤ 31
   pub ofWidths : g .widths .reference ≤ 31
   pub ofWidthBits : g .widths .bits ≤ 31
   pub ofLengthBits : g .lengths .bits ≤ 31
+  pub leastExtra : 1 ≤ g .extra
   pub ofExtra : g .extra ≤ 4

@@ -4,7 +4,7 @@ ghost use Prim.Native.Nat.{_+_, _*_, _<_, _≤_, _^_};
 ghost use lib.ListN.{length};
 ghost use Rattle.octets.specs.Places.{firstBit};
 ghost use Rattle.bits.specs.Bits.{bitsAt};
-ghost use Rattle.section_7_layout.specs.Runs.{differencingAt, layoutOf, widthOf, lengthOf, Limited};
+ghost use Rattle.section_7_layout.specs.Runs.{differencingAt, layoutOf, widthOf, lengthOf, StartsNear, Limited};
 use octets::BitPlace;
 use octets::FilePlace;
 use octets::OctetNumber;
@@ -65,7 +65,7 @@ pub fn layout_of(bits: u32, grouping: Grouping) -> Layout
 
 // The number i of a run of numbers of b bits that starts on octet `first`.
 pub fn stored(run: &[u8], first: OctetNumber, b: u32, i: u32) -> u32
-    requires { ⌜ (1 ≤ first .0) × (first .0 < 2 ^ 40) × (b ≤ 31) ⌝ }
+    requires { ⌜ (StartsNear first) × (b ≤ 31) ⌝ }
     ensures { λ r. ⌜ (r ≡ bitsAt (now (run .entry)) (firstBit (first .0) + i * b) b) × (r < 2 ^ 31) ⌝ }
 {
     let start = octets::first_bit(first);
@@ -75,7 +75,7 @@ pub fn stored(run: &[u8], first: OctetNumber, b: u32, i: u32) -> u32
 
 // The width of group i.
 pub fn width_of(run: &[u8], layout: Layout, grouping: Grouping, i: u32) -> u32
-    requires { ⌜ (1 ≤ layout .widths .0) × (layout .widths .0 < 2 ^ 40) × (grouping .widths .bits ≤ 31) × (grouping .widths .reference ≤ 31) ⌝ }
+    requires { ⌜ (StartsNear (layout .widths)) × (grouping .widths .bits ≤ 31) × (grouping .widths .reference ≤ 31) ⌝ }
     ensures { λ r. ⌜ r ≡ widthOf (now (run .entry)) layout grouping i ⌝ }
 {
     let widths = grouping.widths;
@@ -85,7 +85,7 @@ pub fn width_of(run: &[u8], layout: Layout, grouping: Grouping, i: u32) -> u32
 
 // The length of group i. For the last one, what is stored is not used.
 pub fn length_of(run: &[u8], layout: Layout, grouping: Grouping, i: u32) -> u64
-    requires { ⌜ (1 ≤ layout .lengths .0) × (layout .lengths .0 < 2 ^ 40) × (grouping .lengths .bits ≤ 31) × (i < grouping .groups) ⌝ }
+    requires { ⌜ (StartsNear (layout .lengths)) × (grouping .lengths .bits ≤ 31) × (i < grouping .groups) ⌝ }
     ensures { λ r. ⌜ (r ≡ lengthOf (now (run .entry)) layout grouping i) × (r < 2 ^ 63) ⌝ }
 {
     let lengths = grouping.lengths;

@@ -54,10 +54,7 @@ simple-fill-all _ 𝓤 _ _ _ _ _ _ _ _ _ _ _ _ = one 𝓤 (λ p q. (refl, λ i. 
 pub simple-fill-marked : Determined simple.fill_marked.ended (λ _. simple.fill_marked.clauses)
 simple-fill-marked _ 𝓤 _ _ _ _ _ _ _ _ _ _ _ _ = one 𝓤 (λ p q. (refl, λ i. (tt, (tt, (tt, (tt, (alike (p .0) (q .0) i, (alike (p .1) (q .1) i, tt))))))))
 
--- The groups of a field in complex packing, and both runs.
-pub complex-groups-in : Determined complex.groups_in.ended (λ _. complex.groups_in.clauses)
-complex-groups-in _ 𝓤 _ _ _ _ _ _ _ _ _ _ _ _ = one 𝓤 (λ p q. (alike p q, refl))
-
+-- Whether the integers of a field in complex packing are in their range, and both runs.
 pub complex-is-in-range : Determined complex.is_in_range.ended (λ _. complex.is_in_range.clauses)
 complex-is-in-range _ 𝓤 _ _ _ _ _ _ _ _ _ _ _ _ = one 𝓤 (λ p q. (alike p q, refl))
 

@@ -16,7 +16,7 @@ use Rattle.values_points.specs.Written.{everyPoint, Runs, runs, Written, Filled
 use Rattle.values_points.proofs.Laws.{written-none, written-present}
 use Rattle.values_group.specs.declared.Reached.{Reached}
 use Rattle.values_integers.specs.Integers.{areInRange}
-use Rattle.values_complex.specs.declared.Groups.{Groups}
+use Rattle.section_7.specs.declared.Groups.{Groups}
 use Rattle.values_complex.specs.declared.Start.{Start}
 use Rattle.values_complex.specs.Complex.{groupAt, valuesIn, integerIn, sizeIn, Sound}
 use Rattle.values_complex.proofs.Passed.{Passed, passed-none, all-written}

@@ -18,7 +18,7 @@ use Rattle.section_7.proofs.Laws.{sound-more, sound-widths, values-more, bits-m
 use Rattle.values_group.specs.Group.{mostX, Limits}
 use Rattle.values_integers.specs.Integers.{referenceOf}
 use Rattle.values_integers.specs.Worked.{raisedBy, loweredBy}
-use Rattle.values_complex.specs.declared.Groups.{Groups}
+use Rattle.section_7.specs.declared.Groups.{Groups}
 use Rattle.values_complex.specs.Complex.{skipped, startOf, groupAt, Sound}
 
 -- No more values are skipped than the group has.

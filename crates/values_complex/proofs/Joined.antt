@@ -22,7 +22,7 @@ use Rattle.values_integers.specs.Worked.{raisedBy, loweredBy, worked}
 use Rattle.values_integers.proofs.Groups.{stands-stored}
 use Rattle.values_integers.proofs.Joined.{worked-sound, worked-range, worked-out}
 use Rattle.values_integers.proofs.Range.{in-range-all, in-range-one, in-range-out}
-use Rattle.values_complex.specs.declared.Groups.{Groups}
+use Rattle.section_7.specs.declared.Groups.{Groups}
 use Rattle.values_complex.specs.Complex.{skipped, groupAt, valuesIn, integerIn, sizeIn, Sound}
 
 -- No more is skipped than the group has, nor than makes two values with those before it.

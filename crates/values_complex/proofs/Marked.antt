@@ -20,7 +20,7 @@ use Rattle.values_points.proofs.Laws.{rank-mono}
 use Rattle.values_points.proofs.Missing.{cleared-filled}
 use Rattle.values_group.specs.declared.Reached.{Reached}
 use Rattle.values_integers.specs.Integers.{areInRange}
-use Rattle.values_complex.specs.declared.Groups.{Groups}
+use Rattle.section_7.specs.declared.Groups.{Groups}
 use Rattle.values_complex.specs.declared.Start.{Start}
 use Rattle.values_complex.specs.Complex.{valuesIn, integerIn, sizeIn, Sound}
 use Rattle.values_complex.proofs.Passed.{Passed, all-written}

@@ -19,7 +19,7 @@ use Rattle.values_group.specs.Group.{workedBy, isKept, integerFrom, GroupWritte
 use Rattle.values_points.specs.Written.{Marks, Runs, Written}
 use Rattle.values_points.proofs.Laws.{written-field}
 use Rattle.values_integers.specs.Integers.{integer, areInRange}
-use Rattle.values_complex.specs.declared.Groups.{Groups}
+use Rattle.section_7.specs.declared.Groups.{Groups}
 use Rattle.values_complex.specs.declared.Start.{Start}
 use Rattle.values_complex.specs.Complex.{startOf, groupAt, valuesIn, integerIn, sizeIn, Sound}
 use Rattle.values_complex.proofs.Joined.{workedIn, group-passed, group-ends, group-field, two-kept, range-kept, next-start}

@@ -20,7 +20,7 @@ use Rattle.values_complex.proofs.Bounds.{group-limits}
 use Rattle.values_complex.proofs.Joined.{group-ends, next-start, workedIn, group-passed}
 use Rattle.values_complex.proofs.Passed.{Passed, workedBefore}
 use Rattle.values_complex.specs.Complex.{groupAt, valuesIn, sizeIn, Sound}
-use Rattle.values_complex.specs.declared.Groups.{Groups}
+use Rattle.section_7.specs.declared.Groups.{Groups}
 use Rattle.values_complex.specs.declared.Start.{Start}
 
 module _ (run : List ℕ) (g : Groups) {i x before : ℕ} (kept : workedIn run g (workedBefore run g i) ≡ Worked.Kept x before) (h : i < g .grouping .groups) where

@@ -6,18 +6,13 @@ use mathlib.Core.List.{List}
 use lib.Dec.{ltb}
 use lib.IntN.{ℤ, natAbs}
 use Rattle.octets.specs.Places.{firstBit}
-use Rattle.section_5_groups.specs.declared.Grouping.{Grouping}
-use Rattle.section_7_layout.specs.Runs.{differencingAt, layoutOf, widthOf, lengthOf, Limited}
+use Rattle.section_7_layout.specs.Runs.{layoutOf, widthOf, lengthOf, Limited}
 use Rattle.section_7.specs.Packing.{valuesBefore, bitsBefore, areSound}
 use Rattle.values_group.specs.declared.Group.{Group}
 use Rattle.values_integers.specs.Integers.{referenceOf, storedAt, integer, areInRange}
 use Rattle.values_integers.specs.Worked.{raisedBy, loweredBy}
-use Rattle.values_complex.specs.declared.Groups.{Groups}
+use Rattle.section_7.specs.declared.Groups.{Groups}
 use Rattle.values_complex.specs.declared.Start.{Start}
-
--- The groups of the section 7 at s.
-abbrev pub groupsIn : List ℕ → ℕ → ℕ → Grouping → Groups
-groupsIn file s bits grouping = record { layout = layoutOf bits grouping; grouping = grouping; bits = bits; differencing = differencingAt file s (grouping .extra) }
 
 -- Where the groups are known by their section's octets: all values in them, and the integer X of value m.
 module _ (run : List ℕ) (g : Groups) where

@@ -5,29 +5,16 @@ ghost use Prim.Native.Nat.{_+_, _*_, _≤_, _<_};
 ghost use lib.ListN.{length};
 ghost use Rattle.values_points.specs.Written.{everyPoint, onesOf, lent, left, Room, MarkedRoom, Filled};
 ghost use Rattle.section_6.specs.Presence.{onesBefore};
-ghost use Rattle.section_7_layout.specs.Runs.{Limited};
 ghost use Rattle.values_integers.specs.Worked.{raisedBy, loweredBy};
 ghost use Rattle.values_integers.specs.Integers.{areInRange};
-ghost use Rattle.values_complex.specs.Complex.{groupsIn, skipped, startOf, groupAt, valuesIn, integerIn, sizeIn, AllInRange, Sound};
+ghost use Rattle.values_complex.specs.Complex.{skipped, startOf, groupAt, valuesIn, integerIn, sizeIn, AllInRange, Sound};
 use doubles::Packing;
 use octets::BitPlace;
-use octets::FilePlace;
 use octets::Signed;
-use section_5_groups::Grouping;
-use section_7_layout::Differencing;
-use section_7_layout::Layout;
+use section_7::Groups;
 use values_group::Group;
 use values_group::Reached;
 use values_group::Worked;
-
-// What is known of all groups: where their runs lie, how their widths and lengths are told, the bits of a reference, and what stands before
-// them.
-pub struct Groups {
-    pub layout: Layout,
-    pub grouping: Grouping,
-    pub bits: u32,
-    pub differencing: Differencing,
-}
 
 // Where a group starts: how many values stand before it, and the place of its first bit.
 pub struct Start {
@@ -39,22 +26,6 @@ pub struct Start {
 pub struct Met {
     pub group: Group,
     pub next: Start,
-}
-
-// The groups of the section 7 at `at`.
-pub fn groups_in(file: &[u8], at: FilePlace, bits: u32, grouping: Grouping) -> Groups
-    requires { ⌜ Limited bits grouping ⌝ }
-    requires { ⌜ (1 ≤ grouping .extra) × (at .0 + 5 + 3 * grouping .extra ≤ length (now file)) ⌝ }
-    ensures { λ r. ⌜ r ≡ groupsIn (now (file .entry)) (at .0) bits grouping ⌝ }
-{
-    let layout = section_7_layout::layout_of(bits, grouping);
-    let differencing = section_7_layout::differencing_at(file, at, grouping.extra);
-    Groups {
-        layout,
-        grouping,
-        bits,
-        differencing,
-    }
 }
 
 // What Zmin adds.

@@ -7,18 +7,15 @@ use borrow.Author.Tests.{not-true, not-false}
 use Rattle.octets.specs.Places.{placeOf}
 use Rattle.calendar.specs.Calendar.{timeAt}
 use Rattle.section_1.specs.Identification.{isIdentification}
-use Rattle.section_1.proofs.Laws.{identifies, refused-by-octets, follows-time}
+use Rattle.section_1.proofs.Laws.{identifies, other-octets, follows-time}
 use Rattle.section_1.proofs.identification_at.Statement.{statement}
 use Rattle.section_1.proofs.identification_at.Tie as tie
 
 is-identification-requires : tie.Need-is-identification-requires
 is-identification-requires c κs = search needs
 
-refused-requires : tie.Need-refused-requires
-refused-requires c κs = search needs
-
 returns : tie.Need-returns
-returns c = c .refused .ensures ∙ sym (refused-by-octets _ _ (sym (c .before .before .is-identification .ensures) ∙ not-true _ (c .before .if1 .taken)))
+returns c = sym (other-octets _ _ (sym (c .before .is-identification .ensures) ∙ not-true _ (c .if1 .taken)))
 
 -- Past the test, the octets are as they are to be.
 tested : (c : tie.Else1) → let args = c .before .before .before .args in isIdentification (args .file .now) (args .at .0) ≡ true
@@ -45,9 +42,6 @@ octet-requires c κs = omega (arith, identifies _ _ (tested (c .before .before .
 enum-told : tie.Need-enum-told
 enum-told c = search needs
 
-refused-requires-2 : tie.Need-refused-requires-2
-refused-requires-2 c κs = search needs
-
 returns-2 : tie.Need-returns-2
 returns-2 c =
     let called = c .before .before .before .before in
@@ -55,21 +49,19 @@ returns-2 c =
 
 returns-3 : tie.Need-returns-3
 returns-3 c =
-    let called = c .before .before .before in
-    c .refused2 .ensures ∙ sym (follows-time _ _ (tested (called .before .before)) (sym (read called) ∙ c .before .enum-told .given .1))
+    let called = c .before .before in
+    sym (follows-time _ _ (tested (called .before .before)) (sym (read called) ∙ c .enum-told .given .1))
 
 pub identification-at-spec : {M : Type 1} → statement M
 identification-at-spec =
     tie.close
     (tie.spec
     is-identification-requires
-    refused-requires
     returns
     place-of-requires
     time-at-requires
     enum-known-reference
     octet-requires
     enum-told
-    refused-requires-2
     returns-2
     returns-3)

@@ -4,20 +4,17 @@ use mathlib.Core.Bool.{true}
 use native.Mathlib.Omega.{arith}
 use borrow.Author.Needs.{needs}
 use borrow.Author.Tests.{not-true, not-false}
-use Rattle.section.specs.Sections.{Lies, lengthAt, held}
+use Rattle.section.specs.Sections.{held}
 use Rattle.section_3_geometry.specs.Geometry.{isTaken}
 use Rattle.section_3.specs.declared.Radius.the-variants as Radius
 use Rattle.section_3.specs.declared.Gridded.the-variants as Gridded
-use Rattle.section_3.specs.Section3.{isRegular, isScanned, radiusAt, numbersAt, ofRadius, gridAt}
+use Rattle.section_3.specs.Section3.{LiesWhole, isRegular, isScanned, radiusAt, numbersAt, ofRadius, gridAt}
 use Rattle.section_3.proofs.Tests.{regular, irregular, unscanned, by-radius, not-taken, taken}
 use Rattle.section_3.proofs.grid_at.Statement.{statement}
 use Rattle.section_3.proofs.grid_at.Tie as tie
 
 is-regular-requires : tie.Need-is-regular-requires
 is-regular-requires c κs = search needs
-
-refused-requires : tie.Need-refused-requires
-refused-requires c κs = search needs
 
 -- Behind its test the section is of template 3.0, and then its points are scanned as told.
 regular-is : (c : tie.Else1) → let args = c .before .before .before .args in isRegular (args .file .now) (args .at .0) ≡ true
@@ -27,7 +24,7 @@ scanned-is : (c : tie.Else2) → let args = c .before .before .before .before .b
 scanned-is c = sym (c .before .is-scanned .ensures) ∙ not-false _ (c .if2 .left)
 
 -- Past the first test the section's length is known.
-long : (c : tie.Else1) → let args = c .before .before .before .args in (Lies (args .file .now) (args .at .0)) × (lengthAt (args .file .now) (args .at .0) ≡ 72)
+long : (c : tie.Else1) → let args = c .before .before .before .args in LiesWhole (args .file .now) (args .at .0)
 long c =
     let start = c .before .before .before in
     (start .pre, regular (start .args .file .now) (start .args .at .0) (regular-is c) .length)
@@ -50,18 +47,13 @@ tested : (c : tie.After-is-taken) →
 tested c = c .is-taken .ensures ∙ ap₂ isTaken (c .before .before .numbers-at .ensures) (c .before .held .ensures .0)
 
 returns : tie.Need-returns
-returns c = c .refused .ensures ∙ sym (irregular _ _ (sym (c .before .before .is-regular .ensures) ∙ not-true _ (c .before .if1 .taken)))
+returns c = sym (irregular _ _ (sym (c .before .is-regular .ensures) ∙ not-true _ (c .if1 .taken)))
 
 is-scanned-requires : tie.Need-is-scanned-requires
 is-scanned-requires c κs = long c
 
-refused-requires-2 : tie.Need-refused-requires-2
-refused-requires-2 c κs = search needs
-
 returns-2 : tie.Need-returns-2
-returns-2 c =
-    c .refused2 .ensures
-    ∙ sym (unscanned _ _ (regular-is (c .before .before .before)) (sym (c .before .before .is-scanned .ensures) ∙ not-true _ (c .before .if2 .taken)))
+returns-2 c = sym (unscanned _ _ (regular-is (c .before .before)) (sym (c .before .is-scanned .ensures) ∙ not-true _ (c .if2 .taken)))
 
 radius-at-requires : tie.Need-radius-at-requires
 radius-at-requires c κs = long (c .before .before)
@@ -81,19 +73,13 @@ cast-points c = search needs
 is-taken-requires : tie.Need-is-taken-requires
 is-taken-requires c κs = search needs
 
-refused-requires-3 : tie.Need-refused-requires-3
-refused-requires-3 c κs = search needs
-
 returns-3 : tie.Need-returns-3
 returns-3 c =
-    let k = c .before .before in
-    c .refused3 .ensures ∙ sym (by-metres (k .before .before .before) ∙ not-taken _ _ _ (sym (tested k) ∙ not-true _ (c .before .if3 .taken)))
+    let k = c .before in
+    sym (by-metres (k .before .before .before) ∙ not-taken _ _ _ (sym (tested k) ∙ not-true _ (c .if3 .taken)))
 
 enum-told : tie.Need-enum-told
 enum-told c = search needs
-
-refused-requires-4 : tie.Need-refused-requires-4
-refused-requires-4 c κs = search needs
 
 returns-4 : tie.Need-returns-4
 returns-4 c =
@@ -102,18 +88,16 @@ returns-4 c =
 
 returns-5 : tie.Need-returns-5
 returns-5 c =
-    let k = c .before .before .before in
-    c .refused4 .ensures ∙ sym (described (k .before) ∙ ap (ofRadius _ _) (sym (k .radius-at .ensures) ∙ c .before .enum-told .given .1))
+    let k = c .before .before in
+    sym (described (k .before) ∙ ap (ofRadius _ _) (sym (k .radius-at .ensures) ∙ c .enum-told .given .1))
 
 pub grid-at-spec : {M : Type 1} → statement M
 grid-at-spec =
     tie.close
     (tie.spec
     is-regular-requires
-    refused-requires
     returns
     is-scanned-requires
-    refused-requires-2
     returns-2
     radius-at-requires
     enum-known-radius
@@ -121,9 +105,7 @@ grid-at-spec =
     held-requires
     cast-points
     is-taken-requires
-    refused-requires-3
     returns-3
     enum-told
-    refused-requires-4
     returns-4
     returns-5)

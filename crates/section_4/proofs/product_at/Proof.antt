@@ -2,7 +2,7 @@
 use mathlib.Core.Path.{_≡_, sym, _∙_}
 use native.Mathlib.Omega.{arith}
 use borrow.Author.Tests.{eq-eqb, ne-eqb}
-use Rattle.section_4.specs.Product.{templateAt}
+use Rattle.section_4.specs.Product.{productTemplateAt}
 use Rattle.section_4.proofs.Tests.{template-length, interval-length}
 use Rattle.section_4.proofs.product_at.Statement.{statement}
 use Rattle.section_4.proofs.product_at.Tie as tie
@@ -14,7 +14,7 @@ returns : tie.Need-returns
 returns c = simp (eq-eqb _ 0 (sym (c .before .held .ensures .0) ∙ c .if1 .taken))
 
 -- Behind the test the template is not 0.
-other : (c : tie.Else1) → let a = c .before .before .before .args in templateAt (a .file .now) (a .at .0) ≡ 0 → ⊥
+other : (c : tie.Else1) → let a = c .before .before .before .args in productTemplateAt (a .file .now) (a .at .0) ≡ 0 → ⊥
 other c e = c .if1 .left (c .before .held .ensures .0 ∙ e)
 
 interval-at-requires : tie.Need-interval-at-requires

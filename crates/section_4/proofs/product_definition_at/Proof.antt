@@ -1,4 +1,4 @@
--- `section_4::product_definition_at` meets its contract: each part is read as it stands, and the first that is none refuses.
+-- `section_4::product_definition_at` meets its contract: each part is read as it stands, and with the first that is none the section is not taken.
 use Prim.Native.Nat.{ℕ, _+_, _≤_}
 use mathlib.Core.Path.{_≡_, sym, _∙_}
 use mathlib.Core.Bool.{true}
@@ -18,13 +18,10 @@ use Rattle.section_4.proofs.product_definition_at.Tie as tie
 is-product-requires : tie.Need-is-product-requires
 is-product-requires c κs = search needs
 
-refused-requires : tie.Need-refused-requires
-refused-requires c κs = search needs
-
 returns : tie.Need-returns
 returns c =
-    let tested = c .before .before .is-product in
-    c .refused .ensures ∙ sym (no-product _ _ _ (sym (tested .ensures) ∙ not-true (tested .result) (c .before .if1 .taken)))
+    let tested = c .before .is-product in
+    sym (no-product _ _ _ (sym (tested .ensures) ∙ not-true (tested .result) (c .if1 .taken)))
 
 -- Behind the first test it is a product, and so its template is known and it has at least 34 octets.
 is : (c : tie.Else1) → let a = c .before .before .before .args in isProduct (a .file .now) (a .at .0) ≡ true
@@ -62,13 +59,8 @@ enum-known-valid c = search needs
 enum-told : tie.Need-enum-told
 enum-told c = search needs
 
-refused-requires-2 : tie.Need-refused-requires-2
-refused-requires-2 c κs = search needs
-
 returns-2 : tie.Need-returns-2
-returns-2 c =
-    c .refused2 .ensures
-    ∙ sym (never-valid _ _ _ (is (c .before .before .before .before .before .before)) (moved (c .before .before .before) ∙ c .before .enum-told .given .1))
+returns-2 c = sym (never-valid _ _ _ (is (c .before .before .before .before .before)) (moved (c .before .before) ∙ c .enum-told .given .1))
 
 valid : (c : tie.After-valid) →
     let a = c .before .before .before .before .before .before .before .before .args in
@@ -84,14 +76,10 @@ enum-known-level c = search needs
 enum-told-2 : tie.Need-enum-told-2
 enum-told-2 c = search needs
 
-refused-requires-3 : tie.Need-refused-requires-3
-refused-requires-3 c κs = search needs
-
 returns-3 : tie.Need-returns-3
 returns-3 c =
-    let forecast = c .before .before .before .before .before in
-    c .refused3 .ensures
-    ∙ sym (no-level _ _ _ _ (is (forecast .before .before .before .before .before)) (valid forecast) (sym (c .before .before .before .level-at .ensures) ∙ c .before .enum-told2 .given .1))
+    let forecast = c .before .before .before .before in
+    sym (no-level _ _ _ _ (is (forecast .before .before .before .before .before)) (valid forecast) (sym (c .before .before .level-at .ensures) ∙ c .enum-told2 .given .1))
 
 -- The level that was read.
 level : (c : tie.After-level) →
@@ -116,15 +104,11 @@ enum-known-product c = search needs
 enum-told-3 : tie.Need-enum-told-3
 enum-told-3 c = search needs
 
-refused-requires-4 : tie.Need-refused-requires-4
-refused-requires-4 c κs = search needs
-
 returns-4 : tie.Need-returns-4
 returns-4 c =
-    let surface = c .before .before .before .before .before in
+    let surface = c .before .before .before .before in
     let forecast = surface .before .before .before .before in
-    c .refused4 .ensures
-    ∙ sym (by-product _ _ _ _ (is (forecast .before .before .before .before .before)) (valid forecast) _ _ (level surface) (sym (c .before .before .before .product-at .ensures) ∙ c .before .enum-told3 .given .1))
+    sym (by-product _ _ _ _ (is (forecast .before .before .before .before .before)) (valid forecast) _ _ (level surface) (sym (c .before .before .product-at .ensures) ∙ c .enum-told3 .given .1))
 
 octet-requires-2 : tie.Need-octet-requires-2
 octet-requires-2 c κs = octet-there (c .before .before .before .before .before .before .before .before .before .before .before .before .before .before) 10 (omega arith)
@@ -151,7 +135,6 @@ product-definition-at-spec =
     tie.close
     (tie.spec
     is-product-requires
-    refused-requires
     returns
     held-requires
     cast-count
@@ -159,17 +142,14 @@ product-definition-at-spec =
     later-requires
     enum-known-valid
     enum-told
-    refused-requires-2
     returns-2
     level-at-requires
     enum-known-level
     enum-told-2
-    refused-requires-3
     returns-3
     product-at-requires
     enum-known-product
     enum-told-3
-    refused-requires-4
     returns-4
     octet-requires-2
     octet-requires-3

@@ -65,14 +65,7 @@ returns-5 c =
     let e = c .before .before .before .before .before .before .before .before in
     let d = c .before .before .before .before .before in
     rw (c .octet2 .ensures .0)
-    (sym
-    (doubles-decide _ _
-    (record {
-      finiteR = sym (finite-r (e .before .before)) ∙ not-false _ (e .before .if1 .left);
-      e127 = omega (arith, size-e e);
-      d22 = omega (arith, size-d d);
-      bits31 = omega arith;
-    })))
+    (sym (doubles-decide _ _ (sym (finite-r (e .before .before)) ∙ not-false _ (e .before .if1 .left)) (omega (arith, size-e e, size-d d))))
 
 pub is-scaled-spec : {M : Type 1} → statement M
 is-scaled-spec =

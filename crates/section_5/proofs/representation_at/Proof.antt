@@ -6,8 +6,8 @@ use borrow.Author.Needs.{needs}
 use borrow.Author.Tests.{not-true, not-false}
 use Rattle.section.specs.Sections.{lengthAt}
 use Rattle.section_5.specs.declared.TemplateReading.the-variants as TemplateReading
-use Rattle.section_5.specs.Representation.{templateAt}
-use Rattle.section_5.proofs.Tests.{template-needs-21, no-template-refused, no-limits-refused, taken}
+use Rattle.section_5.specs.Representation.{dataTemplateAt}
+use Rattle.section_5.proofs.Tests.{template-needs-21, no-template-read, no-limits-kept, taken}
 use Rattle.section_5.proofs.representation_at.Statement.{statement}
 use Rattle.section_5.proofs.representation_at.Tie as tie
 
@@ -20,7 +20,7 @@ enum-known-template c = search needs
 -- The template that `template_at` has read, and that the section has the octets up to 21.
 read : (c : tie.After-template) →
     let args = c .before .before .before .before .args in
-    templateAt (args .file .now) (args .at .0) ≡ TemplateReading.Is (c .template .given .0 .0)
+    dataTemplateAt (args .file .now) (args .at .0) ≡ TemplateReading.Is (c .template .given .0 .0)
 read c = sym (c .before .before .template-at .ensures) ∙ c .template .given .1
 
 long : (c : tie.After-template) → let args = c .before .before .before .before .args in 21 ≤ lengthAt (args .file .now) (args .at .0)
@@ -29,22 +29,14 @@ long c = template-needs-21 _ _ (read c)
 enum-told : tie.Need-enum-told
 enum-told c = search needs
 
-refused-requires : tie.Need-refused-requires
-refused-requires c κs = search needs
-
 returns : tie.Need-returns
-returns c = c .refused .ensures ∙ sym (no-template-refused _ _ (sym (c .before .before .before .template-at .ensures) ∙ c .before .enum-told .given .1))
+returns c = sym (no-template-read _ _ (sym (c .before .before .template-at .ensures) ∙ c .enum-told .given .1))
 
 is-scaled-requires : tie.Need-is-scaled-requires
 is-scaled-requires c κs = (c .before .before .before .before .before .pre, long (c .before))
 
-refused-requires-2 : tie.Need-refused-requires-2
-refused-requires-2 c κs = search needs
-
 returns-2 : tie.Need-returns-2
-returns-2 c =
-    c .refused2 .ensures
-    ∙ sym (no-limits-refused _ _ (read (c .before .before .before .before)) (sym (c .before .before .is-scaled .ensures) ∙ not-true _ (c .before .if1 .taken)))
+returns-2 c = sym (no-limits-kept _ _ (read (c .before .before .before)) (sym (c .before .is-scaled .ensures) ∙ not-true _ (c .if1 .taken)))
 
 held-requires : tie.Need-held-requires
 held-requires c κs = omega (arith, long (c .before .before .before))
@@ -89,10 +81,8 @@ representation-at-spec =
     template-at-requires
     enum-known-template
     enum-told
-    refused-requires
     returns
     is-scaled-requires
-    refused-requires-2
     returns-2
     held-requires
     cast-n

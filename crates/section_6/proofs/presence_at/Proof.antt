@@ -20,12 +20,9 @@ stated c = sym (c .length-of .ensures .0)
 indicator : (c : tie.After-octet) → let a = c .before .before .before .before .args in octet (a .file .now) (a .at .0) 6 ≡ c .octet .result
 indicator c = sym (c .octet .ensures .0)
 
-refused-requires : tie.Need-refused-requires
-refused-requires c κs = search needs
-
 returns : tie.Need-returns
 unfolding presenceAt
-returns c = c .refused .ensures ∙ simp (stated (c .before .before), lt-ltb _ 6 (c .before .if1 .taken))
+returns c = simp (stated (c .before), lt-ltb _ 6 (c .if1 .taken))
 
 -- Behind the first test the section has an indicator.
 long-enough : (c : tie.Else1) → let a = c .before .before .before .args in 6 ≤ lengthAt (a .file .now) (a .at .0)
@@ -37,19 +34,15 @@ octet-requires c κs = search needs
 is-bitmap-requires : tie.Need-is-bitmap-requires
 is-bitmap-requires c κs = search needs
 
-refused-requires-2 : tie.Need-refused-requires-2
-refused-requires-2 c κs = search needs
-
 returns-2 : tie.Need-returns-2
 unfolding presenceAt
 returns-2 c =
-    let tested = c .before .before in
+    let tested = c .before in
     let k = tested .before .before in
-    c .refused2 .ensures
-    ∙ simp (
+    simp (
       le-ltb _ 6 (long-enough (k .before)),
       indicator k ∙ tested .before .if2 .taken,
-      sym (tested .is-bitmap .ensures) ∙ not-true (tested .is-bitmap .result) (c .before .if3 .taken),
+      sym (tested .is-bitmap .ensures) ∙ not-true (tested .is-bitmap .result) (c .if3 .taken),
     )
 
 returns-3 : tie.Need-returns-3
@@ -63,15 +56,11 @@ returns-3 c =
       sym (tested .is-bitmap .ensures) ∙ not-false (tested .is-bitmap .result) (c .if3 .left),
     )
 
-refused-requires-3 : tie.Need-refused-requires-3
-refused-requires-3 c κs = search needs
-
 returns-4 : tie.Need-returns-4
 unfolding presenceAt
 returns-4 c =
-    let k = c .before .before .before in
-    c .refused3 .ensures
-    ∙ simp (stated (k .before .before), le-ltb _ 6 (k .before .if1 .left), indicator k, ne-eqb _ 0 (c .before .before .if2 .left), ne-eqb _ 6 (c .before .if4 .taken))
+    let k = c .before .before in
+    simp (stated (k .before .before), le-ltb _ 6 (k .before .if1 .left), indicator k, ne-eqb _ 0 (c .before .if2 .left), ne-eqb _ 6 (c .if4 .taken))
 
 without-bitmap-requires : tie.Need-without-bitmap-requires
 without-bitmap-requires c κs = search needs
@@ -86,14 +75,11 @@ presence-at-spec =
     tie.close
     (tie.spec
     length-of-requires
-    refused-requires
     returns
     octet-requires
     is-bitmap-requires
-    refused-requires-2
     returns-2
     returns-3
-    refused-requires-3
     returns-4
     without-bitmap-requires
     returns-5)

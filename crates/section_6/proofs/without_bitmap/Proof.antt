@@ -20,42 +20,29 @@ enum-known-bitmap c = search needs
 enum-told : tie.Need-enum-told
 enum-told c = search needs
 
-refused-requires : tie.Need-refused-requires
-refused-requires c κs = search needs
-
 returns : tie.Need-returns
 returns c =
-    let k = c .before .before .before in
-    c .refused .ensures ∙ simp (indicator (k .before) ∙ k .match .keys1, c .before .enum-told .given .1)
+    let k = c .before .before in
+    simp (indicator (k .before) ∙ k .match .keys1, c .enum-told .given .1)
 
 is-bitmap-requires : tie.Need-is-bitmap-requires
 is-bitmap-requires c κs = c .before .before .before .before .before .before .pre .1 _ (c .before .bitmap .given .1)
 
-refused-requires-2 : tie.Need-refused-requires-2
-refused-requires-2 c κs = search needs
-
 returns-2 : tie.Need-returns-2
 returns-2 c =
-    let tested = c .before .before in
+    let tested = c .before in
     let found = tested .before .before in
     let k = found .before .before in
-    c .refused2 .ensures
-    ∙ simp (
+    simp (
       indicator (k .before) ∙ k .match .keys1,
       found .bitmap .given .1,
-      sym (tested .is-bitmap .ensures) ∙ not-true (tested .is-bitmap .result) (c .before .if1 .taken),
+      sym (tested .is-bitmap .ensures) ∙ not-true (tested .is-bitmap .result) (c .if1 .taken),
     )
-
-refused-requires-3 : tie.Need-refused-requires-3
-refused-requires-3 c κs = search needs
 
 returns-3 : tie.Need-returns-3
 returns-3 c =
-    let k = c .before .before in
-    c .refused3 .ensures ∙ simp (indicator (k .before) ∙ k .match .keys2, ne-eqb _ _ (c .before .if2 .taken))
-
-refused-requires-4 : tie.Need-refused-requires-4
-refused-requires-4 c κs = search needs
+    let k = c .before in
+    simp (indicator (k .before) ∙ k .match .keys2, ne-eqb _ _ (c .if2 .taken))
 
 returns-4 : tie.Need-returns-4
 returns-4 c =
@@ -74,9 +61,7 @@ returns-5 c =
     simp (indicator (k .before) ∙ k .match .keys2, eq-eqb _ _ (c .if2 .left))
 
 returns-6 : tie.Need-returns-6
-returns-6 c =
-    let k = c .before in
-    c .refused4 .ensures ∙ simp (indicator (k .before), ne-eqb _ 254 (k .match .rest .0 .1), ne-eqb _ 255 (k .match .rest .1))
+returns-6 c = simp (indicator (c .before), ne-eqb _ 254 (c .match .rest .0 .1), ne-eqb _ 255 (c .match .rest .1))
 
 pub without-bitmap-spec : {M : Type 1} → statement M
 without-bitmap-spec =
@@ -85,14 +70,10 @@ without-bitmap-spec =
     octet-requires
     enum-known-bitmap
     enum-told
-    refused-requires
     returns
     is-bitmap-requires
-    refused-requires-2
     returns-2
-    refused-requires-3
     returns-3
-    refused-requires-4
     returns-4
     returns-5
     returns-6)

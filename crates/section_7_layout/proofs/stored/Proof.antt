@@ -11,7 +11,7 @@ first-bit-requires c κs = search needs
 
 -- The bits before number i of the run.
 before : (c : tie.After-first-bit) → let a = c .before .before .args in a .i * a .b < 2 ^ 37
-before c = run-fits (omega arith) (c .before .before .pre .2)
+before c = run-fits (omega arith) (c .before .before .pre .1)
 
 mul-t9 : tie.Need-mul-t9
 mul-t9 c = omega (arith, before c)
@@ -25,7 +25,7 @@ take-requires c κs = omega (arith, before (c .before))
 returns : tie.Need-returns
 returns c =
     let read = rw (c .before .before .first-bit .ensures) at (c .take .ensures .0) in
-    (read, rw read (stored-fits _ _ (c .before .before .before .before .pre .2)))
+    (read, rw read (stored-fits _ _ (c .before .before .before .before .pre .1)))
 
 pub stored-spec : {M : Type 1} → statement M
 stored-spec = tie.close (tie.spec first-bit-requires mul-t9 add-t10 take-requires returns)
