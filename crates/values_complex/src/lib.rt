@@ -1,7 +1,7 @@
 // Complex packing with second differences (5.3): the groups of a field one after the other, judged in a first pass that writes nothing, and
 // written in a second one.
 ghost use mathlib.Core.Path.{_≡_};
-ghost use Prim.Native.Nat.{_+_, _*_, _≤_, _<_};
+ghost use Prim.Native.Nat.{_+_, _<_};
 ghost use lib.ListN.{length};
 ghost use Rattle.values_points.specs.Written.{everyPoint, onesOf, lent, left, Room, MarkedRoom, Filled};
 ghost use Rattle.section_6.specs.Presence.{onesBefore};
@@ -185,25 +185,16 @@ pub fn fill_marked(
     let layout = groups.layout;
     let grouping = groups.grouping;
     let differencing = groups.differencing;
+    let second = differencing.second;
     let one = values_points::write_next(bitmap, packing, differencing.first, values, presence, 0);
-    let two = values_points::write_next(
-        bitmap,
-        packing,
-        differencing.second,
-        values,
-        presence,
-        one,
-    );
+    let two = values_points::write_next(bitmap, packing, second, values, presence, one);
     let mut reached = Reached {
         x: differencing.second as u64,
         before: differencing.first as u64,
         point: two,
     };
-    let first = octets::first_bit(layout.packed);
-    let mut start = Start {
-        values: 0,
-        bit: first,
-    };
+    let bit = octets::first_bit(layout.packed);
+    let mut start = Start { values: 0, bit };
     let mut i: u32 = 0;
     while i < grouping.groups {
         let met = group_at(section, groups, i, start);

@@ -16,12 +16,12 @@ use Rattle.values_complex.proofs.fill_marked.Statement.{statement}
 use Rattle.values_complex.proofs.fill_marked.Tie as tie
 
 abbrev Inv-loop : tie.InvT-loop
-Inv-loop section bitmap groups packing values₀ presence₀ grouping one two reached₀ start₀ i₀ values presence reached start i =
+Inv-loop section bitmap groups packing values₀ presence₀ grouping second one two reached₀ start₀ i₀ values presence reached start i =
     (a : Runs) × (length (a .doubles) ≡ length values₀) × (length (a .marks) ≡ length presence₀) × (length values ≡ length values₀)
     × (length presence ≡ length presence₀) × Passed section groups (onesOf bitmap) packing a i reached start (runs values presence)
 
 abbrev μ-loop : tie.MeasureT-loop
-μ-loop section bitmap groups packing values₀ presence₀ grouping one two reached₀ start₀ i₀ values presence reached start i = grouping .groups - i
+μ-loop section bitmap groups packing values₀ presence₀ grouping second one two reached₀ start₀ i₀ values presence reached start i = grouping .groups - i
 
 -- The function's entry, from behind the first integer that is written.
 abbrev Begun : tie.After-write-next Inv-loop μ-loop → tie.Start Inv-loop μ-loop
@@ -49,11 +49,11 @@ write-next-requires-2 c κs =
     let left = second-left (first .write-next .ensures) (ones-none (s .args .bitmap .now)) (omega (arith, s .pre .0 .twoValues)) in
     omega (arith, left)
 
-cast-t26 : tie.Need-cast-t26 Inv-loop μ-loop
-cast-t26 c = search needs
-
 cast-t27 : tie.Need-cast-t27 Inv-loop μ-loop
 cast-t27 c = search needs
+
+cast-t28 : tie.Need-cast-t28 Inv-loop μ-loop
+cast-t28 c = search needs
 
 first-bit-requires : tie.Need-first-bit-requires Inv-loop μ-loop
 first-bit-requires c κs =
@@ -148,8 +148,8 @@ fill-marked-spec =
     μ-loop
     write-next-requires
     write-next-requires-2
-    cast-t26
     cast-t27
+    cast-t28
     first-bit-requires
     loop-holds
     group-at-requires
