@@ -123,19 +123,19 @@ module _ {M : Type 1} (𝓤 : URA M) (H : Heap 𝓤) (𝓜 : Model 𝓤 H) (𝓖
       (init ! 6 refl (place-typed W (reader .at) is-place .0)) $
       move ! (16 ∷ []) $ split ! $ move ! (1 ∷ []) $ fsplit ! $ move ! (1 ∷ []) $ drop ! $ reader-twice ! κ reader $ run-of ! κ reader $
       -- The context begins with the run of one copy, the other copy and the token. The locals follow, in reverse order.
+      use0 W (raw (After .pre to-after)) (after-asks required) $
+      calls-by ! (frames 𝓤 H 𝓜 𝓖 𝓡 code.env) after.ended (after.clauses 𝓤 H (𝓖 .A) (𝓜 .mem) (𝓡 .run)) after-meets
+      to-after (λ behind. behind .0 ≡ reader .at .0 + b) (λ behind end. id⊢ 𝓤 _) place-laws.lowered place-tells
+      (and-then ! (copied ! 10 refl) (and-then ! (copied ! 14 refl) (no-more !))) (λ behind onward is-behind.
+      land ! (here !) (init ! 9 refl (place-typed W behind is-behind .0)) $ drop ! $ drop ! $
       move ! (0 ∷ 2 ∷ []) $ use2 W (raw (ReadBits .pre to-read)) (read-asks required) $
       calls-by ! (frames 𝓤 H 𝓜 𝓖 𝓡 code.env) read-bits.ended (read-bits.clauses 𝓤 H (𝓖 .A) (𝓜 .mem) (𝓡 .run)) read-bits-meets
       to-read (λ number. number ≡ found) (λ number end. id⊢ 𝓤 _) (vint w32) bits-tells
       (and-then ! (copied ! 10 refl) (and-then ! (copied ! 8 refl) (and-then ! (copied ! 12 refl) (no-more !)))) (λ number said is-number.
-      land ! (here !) (init ! 7 refl (bits-typed W number is-number .0)) $ drop ! $
-      use0 W (raw (After .pre to-after)) (after-asks required) $
-      calls-by ! (frames 𝓤 H 𝓜 𝓖 𝓡 code.env) after.ended (after.clauses 𝓤 H (𝓖 .A) (𝓜 .mem) (𝓡 .run)) after-meets
-      to-after (λ behind. behind .0 ≡ reader .at .0 + b) (λ behind end. id⊢ 𝓤 _) place-laws.lowered place-tells
-      (and-then ! (copied ! 9 refl) (and-then ! (copied ! 13 refl) (no-more !))) (λ behind onward is-behind.
-      land ! (here !) (init ! 6 refl (place-typed W behind is-behind .0)) $ drop ! $ drop ! $
-      assigns ! (agg ! (and-then ! (copied ! 10 refl) (and-then ! (copied ! 4 refl) (no-more !)))) (here !)
+      land ! (here !) (init ! 5 refl (bits-typed W number is-number .0)) $ drop ! $
+      assigns ! (agg ! (and-then ! (copied ! 10 refl) (and-then ! (copied ! 6 refl) (no-more !)))) (here !)
       (init ! 2 refl (reader-typed W erased κ (moved behind) (is-moved behind is-behind) .0)) $
-      assigns ! (agg ! (and-then ! (copied ! 6 refl) (and-then ! (copied ! 2 refl) (no-more !)))) (here !)
+      assigns ! (agg ! (and-then ! (copied ! 4 refl) (and-then ! (copied ! 2 refl) (no-more !)))) (here !)
       (init ! 16 refl (read-typed W (named 0) κ (read number behind) (is-read number behind is-number is-behind) .0)) $
       returns ! (look ! 16 refl) $ freed ! 16 refl $ freed ! 14 refl $ freed ! 12 refl $ freed ! 10 refl $ freed ! 8 refl $ freed ! 6 refl $
       freed ! 4 refl $ freed ! 2 refl $ free0 ! $ by ! (exits number behind is-number is-behind said onward))))))))))))
