@@ -21,7 +21,6 @@ use Rattle.octets.proofs.Cases.{split, both}
 use Rattle.section.specs.Sections.{Lies, octetsIn, held}
 use Rattle.refusals.specs.declared.Why.the-variants as Why
 use Rattle.refusals.specs.Refusals.{refusal}
-use Rattle.doubles.specs.Doubles.{isInRange}
 use Rattle.tiling_sections.specs.declared.Located.{Located}
 use Rattle.tiling_sections.specs.declared.Starts.{Starts}
 use Rattle.tiling.specs.declared.Found.the-variants as Found

@@ -5,4 +5,3 @@ pub mod Accepted
 pub mod Unique
 pub mod Refusals
 pub mod Moved
-pub mod Laid

@@ -17,7 +17,7 @@ use Rattle.tiling_sections.specs.declared.Bitmap.the-variants as Bitmap
 use Rattle.tiling_sections.specs.declared.Located.{Located}
 use Rattle.tiling.specs.Tiling.{statedAt}
 use Rattle.theorems_grammar.specs.Grammar as Grammar
-use Rattle.theorems_grammar.specs.Grammar.{Section, Field, Fields, Grid, Grids, Message, bitmapOf}
+use Rattle.theorems_grammar.specs.Grammar.{Section, Field, Fields, GridPart, GridParts, Message, bitmapOf}
 use Rattle.theorems_grammar.specs.Moved.{Copied, moved, bitmapMoved, locatedMoved}
 use Rattle.theorems_grammar.proofs.Complete.{section-grows, field-grows, fields-grow, grid-grows, grids-grow}
 
@@ -71,14 +71,14 @@ module _ (file other : List ℕ) (a b c : ℕ) (copied : Copied file a b other c
       by true = refl
       by false = refl
 
-  fields-moved : {one three : ℕ} {bitmap : Bitmap} {p q : ℕ} {fs : List Located} → Fields file one three bitmap p q fs → (a ≤ p) × (q ≤ b) → Fields other (to one) (to three) (bitmapMoved a c bitmap) (to p) (to q) (map (locatedMoved a c) fs)
+  fields-moved : {start one three : ℕ} {bitmap : Bitmap} {p q : ℕ} {fs : List Located} → Fields file start one three bitmap p q fs → (a ≤ p) × (q ≤ b) → Fields other (to start) (to one) (to three) (bitmapMoved a c bitmap) (to p) (to q) (map (locatedMoved a c) fs)
   fields-moved {bitmap} (Grammar.Fields.last f) h = rw (← bitmap-moved bitmap f h) (Grammar.Fields.last (field-moved f h))
   fields-moved {bitmap} {p} (Grammar.Fields.more {b = r} f rest) h =
       let inside : (a ≤ p) × (r ≤ b) = omega (arith, fields-grow rest) in
       rw (← bitmap-moved bitmap f inside)
       (Grammar.Fields.more (field-moved f inside) (rw (← bitmap-moved bitmap f inside) at (fields-moved rest (omega (arith, field-grows f)))))
 
-  grid-moved : {one p q : ℕ} {fs : List Located} → Grid file one p q fs → (a ≤ p) × (q ≤ b) → Grid other (to one) (to p) (to q) (map (locatedMoved a c) fs)
+  grid-moved : {start one p q : ℕ} {fs : List Located} → GridPart file start one p q fs → (a ≤ p) × (q ≤ b) → GridPart other (to start) (to one) (to p) (to q) (map (locatedMoved a c) fs)
   grid-moved g h =
       record {
         p4 = to (g .p4);
@@ -86,10 +86,10 @@ module _ (file other : List ℕ) (a b c : ℕ) (copied : Copied file a b other c
         fields = fields-moved (g .fields) (omega (arith, section-grows (g .three)));
       }
 
-  grids-moved : {one p q : ℕ} {fs : List Located} → Grids file one p q fs → (a ≤ p) × (q ≤ b) → Grids other (to one) (to p) (to q) (map (locatedMoved a c) fs)
-  grids-moved (Grammar.Grids.last g) h = Grammar.Grids.last (grid-moved g h)
-  grids-moved (Grammar.Grids.more {fs} {gs} g r) h =
-      rw (map-append (locatedMoved a c) fs gs) (Grammar.Grids.more (grid-moved g (omega (arith, grids-grow r))) (grids-moved r (omega (arith, grid-grows g))))
+  grids-moved : {start one p q : ℕ} {fs : List Located} → GridParts file start one p q fs → (a ≤ p) × (q ≤ b) → GridParts other (to start) (to one) (to p) (to q) (map (locatedMoved a c) fs)
+  grids-moved (Grammar.GridParts.last g) h = Grammar.GridParts.last (grid-moved g h)
+  grids-moved (Grammar.GridParts.more {fs} {gs} g r) h =
+      rw (map-append (locatedMoved a c) fs gs) (Grammar.GridParts.more (grid-moved g (omega (arith, grids-grow r))) (grids-moved r (omega (arith, grid-grows g))))
 
   -- A message that is copied from a to c is a message there, with its fields moved along.
   pub message-moved : {fs : List Located} → Message file a b fs → c + (b - a) ≤ length other → Message other c (c + (b - a)) (map (locatedMoved a c) fs)
@@ -97,6 +97,7 @@ module _ (file other : List ℕ) (a b c : ℕ) (copied : Copied file a b other c
       let one-grows : a + 16 + 5 ≤ m .p3 = section-grows (m .one) in
       let rest-grows : m .p3 + 25 ≤ m .p7777 = grids-grow (m .grids) in
       let closed : m .p7777 + 4 ≡ b = m .closed in
+      let opens : to a ≡ c = omega arith in
       let first : to (a + 16) ≡ c + 16 = omega arith in
       let same : statedAt other c ≡ statedAt file a = number-moved 8 _ _ (omega arith) in
       record {
@@ -107,7 +108,7 @@ module _ (file other : List ℕ) (a b c : ℕ) (copied : Copied file a b other c
         p3 = to (m .p3);
         p7777 = to (m .p7777);
         one = rw first at (section-moved (m .one) (omega arith));
-        grids = rw first at (grids-moved (m .grids) (omega arith));
+        grids = rw (opens, first) at (grids-moved (m .grids) (omega arith));
         closing = number-moved 4 _ _ (omega arith) ∙ m .closing;
         closed = omega arith;
       }

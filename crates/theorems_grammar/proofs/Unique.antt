@@ -3,7 +3,8 @@ use Prim.Native.Nat.{ℕ}
 use mathlib.Core.Path.{_≡_}
 use mathlib.Core.List.{List}
 use Rattle.tiling_sections.specs.declared.Located.{Located}
-use Rattle.tiling.specs.Tiling.{message, passed, tiled, outcome}
+use Rattle.tiling_sections.specs.Walk.{passed}
+use Rattle.tiling.specs.Tiling.{message, tiled, tilingOf}
 use Rattle.theorems_grammar.specs.Grammar.{Message, Accepted}
 use Rattle.theorems_grammar.proofs.Complete.{message-complete, accepted-complete}
 
@@ -16,6 +17,6 @@ module _ {file : List ℕ} where
 
   pub unique : {m m′ : ℕ} {fs fs′ : List Located} → Accepted file m fs → Accepted file m′ fs′ → (m ≡ m′) × (fs ≡ fs′)
   unique {m} {m′} {fs} {fs′} d d′ =
-      let given : outcome file ≡ tiled m fs = accepted-complete d in
-      let given′ : outcome file ≡ tiled m′ fs′ = accepted-complete d′ in
+      let given : tilingOf file ≡ tiled m fs = accepted-complete d in
+      let given′ : tilingOf file ≡ tiled m′ fs′ = accepted-complete d′ in
       (cc, cc)

@@ -10,7 +10,7 @@ use Rattle.tiling_sections.specs.declared.Bitmap.{Bitmap}
 use Rattle.tiling_sections.specs.declared.Bitmap.the-variants as Bitmap
 use Rattle.tiling_sections.specs.declared.Located.{Located}
 use Rattle.tiling_sections.specs.Walk.{bitmapBehind}
-use Rattle.tiling.specs.Tiling.{largest, grib, sevens, markAt, editionAt, statedAt}
+use Rattle.tiling.specs.Tiling.{largest, grib, sevens, openingAt, editionAt, statedAt}
 use Rattle.octets.specs.Numbers.{numberAt}
 
 -- A section numbered n, from place a up to b: its first four octets hold its length, and the fifth its number.
@@ -34,40 +34,40 @@ module _ {file : List ℕ} {a b : ℕ} where
   abbrev pub bitmapOf : Bitmap → Field file a b → Bitmap
   bitmapOf bitmap f = bitmapBehind file bitmap (f .p6) (f .p7)
 
-  -- Where a field lies, under the sections 1 and 3 and the bitmap in force.
-  abbrev pub locatedAt : ℕ → ℕ → Bitmap → Field file a b → Located
-  locatedAt one three bitmap f =
+  -- Where a field lies, under the sections 0, 1 and 3 and the bitmap in force.
+  abbrev pub locatedAt : ℕ → ℕ → ℕ → Bitmap → Field file a b → Located
+  locatedAt start one three bitmap f =
       record {
-        starts = record { one = at one; three = at three; four = at a; five = at (f .p5); six = at (f .p6); seven = at (f .p7) };
+        starts = record { zero = at start; one = at one; three = at three; four = at a; five = at (f .p5); six = at (f .p6); seven = at (f .p7) };
         bitmap = bitmapOf bitmap f;
       }
 
 -- One or more fields, from a up to b, and where each lies.
-pub data Fields (file : List ℕ) (one three : ℕ) : Bitmap → ℕ → ℕ → List Located → Type 0 where
-  last : {bitmap : Bitmap} {a b : ℕ} (f : Field file a b) → Fields file one three bitmap a b (locatedAt one three bitmap f ∷ [])
-  more : {bitmap : Bitmap} {a b c : ℕ} {fs : List Located} (f : Field file a b) → Fields file one three (bitmapOf bitmap f) b c fs → Fields file one three bitmap a c (locatedAt one three bitmap f ∷ fs)
+pub data Fields (file : List ℕ) (start one three : ℕ) : Bitmap → ℕ → ℕ → List Located → Type 0 where
+  last : {bitmap : Bitmap} {a b : ℕ} (f : Field file a b) → Fields file start one three bitmap a b (locatedAt start one three bitmap f ∷ [])
+  more : {bitmap : Bitmap} {a b c : ℕ} {fs : List Located} (f : Field file a b) → Fields file start one three (bitmapOf bitmap f) b c fs → Fields file start one three bitmap a c (locatedAt start one three bitmap f ∷ fs)
 
 -- A grid is section 3 followed by one or more fields. No bitmap is in force at its start.
-pub record Grid (file : List ℕ) (one a b : ℕ) (fs : List Located) : Type 0 where
+pub record GridPart (file : List ℕ) (start one a b : ℕ) (fs : List Located) : Type 0 where
   pub p4 : ℕ
   pub three : Section file 3 a p4
-  pub fields : Fields file one a Bitmap.Absent p4 b fs
+  pub fields : Fields file start one a Bitmap.Absent p4 b fs
 
 -- One or more grids.
-pub data Grids (file : List ℕ) (one : ℕ) : ℕ → ℕ → List Located → Type 0 where
-  last : {a b : ℕ} {fs : List Located} → Grid file one a b fs → Grids file one a b fs
-  more : {a b c : ℕ} {fs gs : List Located} → Grid file one a b fs → Grids file one b c gs → Grids file one a c (fs ++ gs)
+pub data GridParts (file : List ℕ) (start one : ℕ) : ℕ → ℕ → List Located → Type 0 where
+  last : {a b : ℕ} {fs : List Located} → GridPart file start one a b fs → GridParts file start one a b fs
+  more : {a b c : ℕ} {fs gs : List Located} → GridPart file start one a b fs → GridParts file start one b c gs → GridParts file start one a c (fs ++ gs)
 
 -- A message, from a up to b: section 0 with "GRIB", edition 2 and the message's length; section 1 once; one or more grids; "7777".
 pub record Message (file : List ℕ) (a b : ℕ) (fs : List Located) : Type 0 where
-  pub mark : markAt file a ≡ grib
+  pub mark : openingAt file a ≡ grib
   pub edition : editionAt file a ≡ 2
   pub stated : a + statedAt file a ≡ b
   pub inside : b ≤ length file
   pub p3 : ℕ
   pub p7777 : ℕ
   pub one : Section file 1 (a + 16) p3
-  pub grids : Grids file (a + 16) p3 p7777 fs
+  pub grids : GridParts file a (a + 16) p3 p7777 fs
   pub closing : numberAt file p7777 4 ≡ sevens
   pub closed : p7777 + 4 ≡ b
 

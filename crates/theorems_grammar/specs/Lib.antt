@@ -2,4 +2,3 @@
 pub mod Grammar
 pub mod Refusals
 pub mod Moved
-pub mod Laid

@@ -7,6 +7,7 @@ use Rattle.octets.specs.Places.{at}
 use Rattle.tiling_sections.specs.declared.Bitmap.{Bitmap}
 use Rattle.tiling_sections.specs.declared.Bitmap.the-variants as Bitmap
 use Rattle.tiling_sections.specs.declared.Located.{Located}
+use Rattle.tiling_sections.specs.Walk.{startOf, startsBy}
 
 -- Where a place lies that is moved with the message from a to c.
 abbrev pub moved : ℕ → ℕ → ℕ → ℕ
@@ -23,16 +24,4 @@ module _ (a c : ℕ) where
   bitmapMoved (Bitmap.At p) = Bitmap.At (at (moved a c (p .0)))
 
   abbrev pub locatedMoved : Located → Located
-  locatedMoved l =
-      record {
-        starts =
-            record {
-              one = at (moved a c (l .starts .one .0));
-              three = at (moved a c (l .starts .three .0));
-              four = at (moved a c (l .starts .four .0));
-              five = at (moved a c (l .starts .five .0));
-              six = at (moved a c (l .starts .six .0));
-              seven = at (moved a c (l .starts .seven .0));
-            };
-        bitmap = bitmapMoved (l .bitmap);
-      }
+  locatedMoved l = record { starts = startsBy (λ n. moved a c (startOf (l .starts) n)); bitmap = bitmapMoved (l .bitmap) }

@@ -1,25 +1,22 @@
--- The numbers in an answer of check are small: no file that is taken has more messages or fields than octets, and a refusal of check or find
--- names a place within such a file.
-use Prim.Native.Nat.{ℕ, _≤_}
+-- What is known of the answers of check and find. No file that is taken has more messages than octets, or more fields than one for every 20; a refusal
+-- names a place within such a file; and where find says that a field lies, its sections lie in the file.
+use Prim.Native.Nat.{ℕ, _*_, _≤_, _<_}
 use mathlib.Core.Path.{_≡_, refl, ap, subst}
-use mathlib.Core.Bool.{Bool, true, false, cond}
 use mathlib.Core.List.{List}
 use native.Mathlib.Nat.{le-of-lt}
 use native.Mathlib.Omega.{arith}
-use lib.Dec.{ltb}
 use lib.ListN.{length, getD, length-append}
 use Rattle.refusals.specs.declared.Refusal.{Refusal}
-use Rattle.refusals.specs.declared.Why.the-variants as Why
-use Rattle.refusals.specs.Refusals.{refusal}
 use Rattle.laws_machine.specs.Machine.{go, stop, Trace, halts, steps}
 use Rattle.tiling_sections.specs.declared.Located.{Located}
-use Rattle.tiling_sections.specs.Walk.{nowhere}
+use Rattle.tiling_sections.specs.Walk.{passed, nowhere}
+use Rattle.tiling_sections.specs.Laid.{Laid}
+use Rattle.tiling_sections.proofs.Laid.{Every, none, join, at-each}
 use Rattle.tiling.specs.declared.Checked.{Checked}
 use Rattle.tiling.specs.declared.Checked.the-variants as Checked
-use Rattle.tiling.specs.declared.Found.{Found}
-use Rattle.tiling.specs.declared.Found.the-variants as Found
-use Rattle.tiling.specs.Tiling.{largest, passed, Reading, Outcome, tiled, refused, fileStep, outcome, checked, check, found, find}
-use Rattle.tiling.proofs.Laws.{Bounded, message-bounded, Reads, on, end, reads, Whole, read, whole, check-placed}
+use Rattle.tiling.specs.Tiling.{largest, SoFar, InFile, tiled, refused, fileStep, tilingOf, foundIn, find, checked, check}
+use Rattle.tiling.specs.Lying.{Lying}
+use Rattle.tiling.proofs.Laws.{Bounded, message-bounded, MessageLaid, message-laid, Reads, on, end, reads, Whole, read, whole, check-placed}
 
 -- No number in the answer is above the length of the largest file that is taken.
 abbrev pub Small : Checked → Type 0
@@ -27,44 +24,59 @@ Small (Checked.Counts messages fields) = (messages ≤ largest) × (fields ≤ l
 Small (Checked.Refused r) = r .place .0 ≤ largest
 
 module _ (file : List ℕ) where
-  -- A reading has no more messages and no more fields behind it than octets.
-  abbrev Few : Reading → Type 0
-  Few r = (r .place ≤ length file) × (r .messages ≤ r .place) × (length (r .fields) ≤ r .place)
+  -- A reading has no more messages behind it than octets, at most one field for every 20, and the sections of each field lie in the file.
+  record Kept (r : SoFar) : Type 0 where
+    inside : r .place ≤ length file
+    fewMessages : r .messages ≤ r .place
+    fewFields : 20 * length (r .fields) ≤ r .place
+    laid : Every (Laid file) (r .fields)
 
-  few-end : {m : ℕ} {fields : List Located} {r : Reading} → Few r → Reads file r (stop (tiled m fields)) → (m ≤ length file) × (length fields ≤ length file)
-  few-end few (end h) = omega arith
+  -- What is known of a file that is tiled.
+  pub record Sound (m : ℕ) (fields : List Located) : Type 0 where
+    pub fewMessages : m ≤ length file
+    pub fewFields : 20 * length fields ≤ length file
+    pub laid : Every (Laid file) fields
 
-  few-on : {r t : Reading} → Few r → Reads file r (go t) → Few t
-  few-on {r} few (on {q} {fields} h m) =
+  kept-end : {m : ℕ} {fields : List Located} {r : SoFar} → Kept r → Reads file r (stop (tiled m fields)) → Sound m fields
+  kept-end k (end h) = record { fewMessages = omega (arith, k .inside, k .fewMessages); fewFields = omega (arith, k .inside, k .fewFields); laid = k .laid }
+
+  kept-on : {r t : SoFar} → Kept r → Reads file r (go t) → Kept t
+  kept-on {r} k (on {q} {fields} h m) =
       let bounded : Bounded file (r .place) (passed q fields) = subst (Bounded file (r .place)) m (message-bounded file (r .place) (le-of-lt h)) in
-      (bounded .1, omega arith, simp length-append (omega arith))
+      record {
+        inside = bounded .1;
+        fewMessages = omega (arith, k .fewMessages);
+        fewFields = simp length-append (omega (arith, k .fewFields));
+        laid = join (k .laid) (subst (MessageLaid file) m (message-laid file (r .place)));
+      }
 
-  trace-few : {r : Reading} {m : ℕ} {fields : List Located} → Few r → Trace (fileStep file) r (tiled m fields) → (m ≤ length file) × (length fields ≤ length file)
-  trace-few {r} few (halts h) = few-end few (subst (Reads file r) h (reads file r))
-  trace-few {r} few (steps h t) = trace-few (few-on few (subst (Reads file r) h (reads file r))) t
+  trace-sound : {r : SoFar} {m : ℕ} {fields : List Located} → Kept r → Trace (fileStep file) r (tiled m fields) → Sound m fields
+  trace-sound {r} k (halts h) = kept-end k (subst (Reads file r) h (reads file r))
+  trace-sound {r} k (steps h t) = trace-sound (kept-on k (subst (Reads file r) h (reads file r))) t
 
-  whole-few : {m : ℕ} {fields : List Located} → Whole file (tiled m fields) → (m ≤ largest) × (length fields ≤ largest)
-  whole-few (read some most t) = let few = trace-few (omega arith, omega arith, omega arith) t in omega arith
+  whole-sound : {m : ℕ} {fields : List Located} → Whole file (tiled m fields) → (length file ≤ largest) × Sound m fields
+  whole-sound (read some most t) = (most, trace-sound (record { inside = omega arith; fewMessages = omega arith; fewFields = omega arith; laid = none }) t)
+
+  pub tiled-sound : {m : ℕ} {fields : List Located} → tilingOf file ≡ tiled m fields → (length file ≤ largest) × Sound m fields
+  tiled-sound h = whole-sound (subst (Whole file) h (whole file))
 
   pub check-bounded : Small (check file)
-  check-bounded = by (outcome file) refl
+  check-bounded = by (tilingOf file) refl
     where
-      by : (o : Outcome) → outcome file ≡ o → Small (checked o)
-      by (tiled m fields) h = whole-few (subst (Whole file) h (whole file))
+      by : (o : InFile) → tilingOf file ≡ o → Small (checked o)
+      by (tiled m fields) h = let sound = tiled-sound h in omega (arith, sound .0, sound .1 .fewMessages, sound .1 .fewFields)
       by (refused r) h = check-placed file (ap checked h) .1
 
-  -- So is the place in a refusal of find.
-  abbrev InFile : Found → Type 0
-  InFile (Found.At l) = Unit {0}
-  InFile (Found.Refused r) = r .place .0 ≤ largest
+  -- Where a file is tiled, the sections of its field k lie in it.
+  pub field-laid : {m : ℕ} {fields : List Located} (k : ℕ) → tilingOf file ≡ tiled m fields → k < length fields → Laid file (getD fields k nowhere)
+  field-laid k h below = at-each k below (tiled-sound h .1 .laid)
 
-  field-in-file : (there : Bool) (l : Located) → InFile (cond there (Found.At l) (Found.Refused (refusal Why.NoSuchField 0)))
-  field-in-file true l = tt
-  field-in-file false l = omega arith
+  pub refused-placed : {f : Refusal} → tilingOf file ≡ refused f → f .place .0 ≤ largest
+  refused-placed h = check-placed file (ap checked h) .1
 
-  pub find-bounded : (k : ℕ) {r : Refusal} → find file k ≡ Found.Refused r → r .place .0 ≤ largest
-  find-bounded k e = subst InFile e (by (outcome file) refl)
+  pub find-lying : (k : ℕ) → Lying file k (find file k)
+  find-lying k = by (tilingOf file) refl
     where
-      by : (o : Outcome) → outcome file ≡ o → InFile (found k o)
-      by (tiled m fields) h = field-in-file (ltb k (length fields)) (getD fields k nowhere)
-      by (refused r) h = check-placed file (ap checked h) .1
+      by : (o : InFile) → tilingOf file ≡ o → Lying file k (foundIn k o)
+      by (tiled m fields) h = (tiled-sound h .0, field-laid k h)
+      by (refused r) h = refused-placed h

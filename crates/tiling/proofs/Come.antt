@@ -1,7 +1,7 @@
 -- What the proofs of tiling's functions go by: how the answers of a function follow from those of the functions that it calls, and what the loop
 -- of `tiling::tile` keeps. The code has only the count of the fields and the place of one of them; the list of all is the proof's.
 use Prim.Native.Nat.{ℕ, _+_, _-_, _≤_, _<_}
-use mathlib.Core.Path.{_≡_, refl, ap, ap₂, subst, _∙_}
+use mathlib.Core.Path.{_≡_, refl, ap, ap₂, sym, subst, _∙_}
 use mathlib.Core.List.{List, _++_}
 use mathlib.Core.Bool.{cond}
 use native.Mathlib.Omega.{arith}
@@ -13,64 +13,39 @@ use Rattle.octets.specs.declared.FilePlace.{FilePlace}
 use Rattle.octets.proofs.Cases.{apart, split}
 use Rattle.octets.specs.Places.{at}
 use Rattle.refusals.specs.declared.Refusal.{Refusal}
-use Rattle.refusals.specs.declared.Why.the-variants as Why
+use Rattle.refusals.specs.declared.Why.{Why}
 use Rattle.refusals.specs.Refusals.{refusal}
 use Rattle.tiling_sections.specs.declared.Located.{Located}
 use Rattle.tiling_sections.specs.declared.Walked.{Walked}
 use Rattle.tiling_sections.specs.declared.Walked.the-variants as Walked
-use Rattle.tiling_sections.specs.Walk as Walk
-use Rattle.tiling_sections.specs.Walk.{Tiled, nowhere, sections, counted}
+use Rattle.tiling_sections.specs.Walk.{InMessage, passed, failed, nowhere, sections, told}
 use Rattle.tiling.specs.declared.Header.the-variants as Header
-use Rattle.tiling.specs.declared.Message as declared
-use Rattle.tiling.specs.declared.Message.the-variants as Told
-use Rattle.tiling.specs.declared.Tiles.{Tiles}
-use Rattle.tiling.specs.declared.Tiles.the-variants as Tiles
-use Rattle.tiling.specs.declared.Checked.{Checked}
-use Rattle.tiling.specs.declared.Checked.the-variants as Checked
 use Rattle.tiling.specs.declared.Found.{Found}
 use Rattle.tiling.specs.declared.Found.the-variants as Found
-use Rattle.tiling.specs.Tiling.{headerAt, Message, passed, failed, walked, message, told, Outcome, tiled, refused, readFrom, tiles, outcome, answered, checked, check, found, find}
+use Rattle.tiling.specs.declared.Checked.{Checked}
+use Rattle.tiling.specs.declared.Checked.the-variants as Checked
+use Rattle.tiling.specs.Tiling.{headerAt, message, InFile, tiled, refused, readFrom, tiles, tilingOf, foundIn, find, checked, check}
 use Rattle.tiling.proofs.Laws.{Bounded, message-bad, message-walked, message-bounded, read-on, read-bad, read-end}
 
--- What is told of a message whose sections end at e, by what the walk over them has counted.
-abbrev pub ended : ℕ → Walked → declared.Message
-ended e (Walked.Fields count hit) = Told.Passed count (at (e + 4)) hit
-ended e (Walked.Bad r) = Told.Bad r
-
-told-walked : (k e : ℕ) (t : Tiled) → told k (walked e t) ≡ ended e (counted k t)
-told-walked k e (Walk.finished fields) = refl
-told-walked k e (Walk.refused r) = refl
-
+-- What is told of a message, by its header.
 module _ (file : List ℕ) (p k : ℕ) where
-  pub told-sections : {e : FilePlace} {w : Walked} → headerAt file p ≡ Header.Sections e → counted k (sections file (p + 16) (e .0)) ≡ w → told k (message file p) ≡ ended (e .0) w
-  told-sections {e} h i = ap (told k) (message-walked file p e h) ∙ told-walked k (e .0) (sections file (p + 16) (e .0)) ∙ ap (ended (e .0)) i
+  pub told-sections : {e : FilePlace} {w : Walked} → headerAt file p ≡ Header.Sections e → w ≡ told k (sections file p (e .0)) → w ≡ told k (message file p)
+  told-sections {e} h i = i ∙ ap (told k) (sym (message-walked file p e h))
 
-  pub told-bad : {r : Refusal} → headerAt file p ≡ Header.Bad r → told k (message file p) ≡ Told.Bad r
-  told-bad {r} h = ap (told k) (message-bad file p r h)
+  pub told-bad : {why : Why} → headerAt file p ≡ Header.Bad why → told k (message file p) ≡ Walked.Bad (refusal why p)
+  told-bad {why} h = ap (told k) (message-bad file p why h)
 
--- The answers of check and find, by what `tiling::read` has found.
-abbrev pub countsOf : Tiles → Checked
-countsOf (Tiles.Tiled messages fields hit) = Checked.Counts messages fields
-countsOf (Tiles.Refused r) = Checked.Refused r
+-- The answer of check, by what find has found.
+abbrev pub countsOf : Found → Checked
+countsOf (Found.Tiled messages fields hit) = Checked.Counts messages fields
+countsOf (Found.Refused r) = Checked.Refused r
 
-abbrev pub placeIn : ℕ → Tiles → Found
-placeIn k (Tiles.Tiled messages fields hit) = cond (ltb k fields) (Found.At hit) (Found.Refused (refusal Why.NoSuchField 0))
-placeIn k (Tiles.Refused r) = Found.Refused r
-
-checked-counts : (k : ℕ) (o : Outcome) → checked o ≡ countsOf (answered k o)
-checked-counts k (tiled m fields) = refl
-checked-counts k (refused r) = refl
-
-found-place : (k : ℕ) (o : Outcome) → found k o ≡ placeIn k (answered k o)
-found-place k (tiled m fields) = refl
-found-place k (refused r) = refl
-
-module _ (file : List ℕ) (k : ℕ) {t : Tiles} (h : answered k (outcome file) ≡ t) where
-  pub check-counts : check file ≡ countsOf t
-  check-counts = checked-counts k (outcome file) ∙ ap countsOf h
-
-  pub find-place : find file k ≡ placeIn k t
-  find-place = found-place k (outcome file) ∙ ap (placeIn k) h
+pub check-counts : (file : List ℕ) (k : ℕ) {t : Found} → find file k ≡ t → check file ≡ countsOf t
+check-counts file k h = by (tilingOf file) ∙ ap countsOf h
+  where
+    by : (o : InFile) → checked o ≡ countsOf (foundIn k o)
+    by (tiled m fields) = refl
+    by (refused r) = refl
 
 -- What is told of the message at p is so of its fields. It ends past its start and within the file, and has no more fields than octets.
 pub record Taken (file : List ℕ) (p k count q : ℕ) (hit : Located) : Type 0 where
@@ -82,10 +57,10 @@ pub record Taken (file : List ℕ) (p k count q : ℕ) (hit : Located) : Type 0 
   pub counts : length fields ≡ count
   pub found : getD fields k nowhere ≡ hit
 
-pub message-taken : (file : List ℕ) (p k : ℕ) {count : ℕ} {q : FilePlace} {hit : Located} → p ≤ length file → told k (message file p) ≡ Told.Passed count q hit → Taken file p k count (q .0) hit
+pub message-taken : (file : List ℕ) (p k : ℕ) {count : ℕ} {q : FilePlace} {hit : Located} → p ≤ length file → told k (message file p) ≡ Walked.Fields count q hit → Taken file p k count (q .0) hit
 message-taken file p k {count} {q} {hit} inside = by (message file p) refl (message-bounded file p inside)
   where
-    by : (m : Message) → message file p ≡ m → Bounded file p m → told k m ≡ Told.Passed count q hit → Taken file p k count (q .0) hit
+    by : (m : InMessage) → message file p ≡ m → Bounded file p m → told k m ≡ Walked.Fields count q hit → Taken file p k count (q .0) hit
     by (passed e fields) whole bounded h =
         let same : at e ≡ q = cc in
         let ends : e ≡ q .0 = ap (λ (x : FilePlace). x .0) same in
@@ -93,7 +68,7 @@ message-taken file p k {count} {q} {hit} inside = by (message file p) refl (mess
         record { least = omega arith; inside = omega arith; few = omega arith; fields = fields; whole = rw ends at whole; counts = counts; found = cc }
     by (failed r) whole bounded h = apart cc
 
-told-failed : (k : ℕ) (m : Message) {r : Refusal} → told k m ≡ Told.Bad r → m ≡ failed r
+told-failed : (k : ℕ) (m : InMessage) {r : Refusal} → told k m ≡ Walked.Bad r → m ≡ failed r
 told-failed k (passed q fields) {r} h = apart cc
 told-failed k (failed f) h = cc
 
@@ -129,8 +104,8 @@ module _ {file : List ℕ} {k p m n : ℕ} {hit : Located} (r : Come file k p m 
         same = r .same ∙ read-on file _ q (taken .fields) h (taken .whole);
       }
 
-  pub come-bad : (j : ℕ) {f : Refusal} → p < length file → told j (message file p) ≡ Told.Bad f → answered k (tiles file) ≡ Tiles.Refused f
-  come-bad j {f} h s = ap (answered k) (r .same ∙ read-bad file _ f h (told-failed j (message file p) s))
+  pub come-bad : (j : ℕ) {f : Refusal} → p < length file → told j (message file p) ≡ Walked.Bad f → foundIn k (tiles file) ≡ Found.Refused f
+  come-bad j {f} h s = ap (foundIn k) (r .same ∙ read-bad file _ f h (told-failed j (message file p) s))
 
-  pub come-end : length file ≤ p → answered k (tiles file) ≡ Tiles.Tiled m n hit
-  come-end h = ap (answered k) (r .same ∙ read-end file _ h) ∙ ap₂ (Tiles.Tiled m) (r .counts) (r .found)
+  pub come-end : length file ≤ p → foundIn k (tiles file) ≡ Found.Tiled m n hit
+  come-end h = ap (foundIn k) (r .same ∙ read-end file _ h) ∙ ap₂ (Found.Tiled m) (r .counts) (r .found)

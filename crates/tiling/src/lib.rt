@@ -4,7 +4,9 @@ ghost use mathlib.Core.Bool.{cond};
 ghost use Prim.Native.Nat.{_-_, _≤_};
 ghost use lib.Dec.{ltb};
 ghost use lib.ListN.{length};
-ghost use Rattle.tiling.specs.Tiling.{headerAt, message, told, tiles, answered, outcome, check, find};
+ghost use Rattle.tiling_sections.specs.Walk.{told};
+ghost use Rattle.tiling.specs.Tiling.{headerAt, message, tiles, foundIn, check, find};
+ghost use Rattle.tiling.specs.Lying.{Lying};
 use octets::FilePlace;
 use octets::OctetNumber;
 use refusals::Refusal;
@@ -12,24 +14,14 @@ use refusals::Why;
 use tiling_sections::Located;
 use tiling_sections::Walked;
 
-// What steps a to e say of the message at a place: where its sections end, or the fault.
+// What steps a to e say of the message at a place: where its sections end, or the fault, which stands at that very place.
 pub enum Header {
     Sections(FilePlace),
-    Bad(Refusal),
+    Bad(Why),
 }
 
-// What steps a to f say of it: how many fields, where the next message starts, and where the field lies that is looked for; or the fault.
-pub enum Message {
-    Passed {
-        count: usize,
-        next: FilePlace,
-        hit: Located,
-    },
-    Bad(Refusal),
-}
-
-// What the whole file holds: the counts, and where the field lies that is looked for; or the first fault.
-pub enum Tiles {
+// What the whole file holds: the counts of messages and fields, and where the field lies that is looked for; or the first fault.
+pub enum Found {
     Tiled {
         messages: usize,
         fields: usize,
@@ -43,17 +35,6 @@ pub enum Checked {
     Refused(Refusal),
 }
 
-pub enum Found {
-    At(Located),
-    Refused(Refusal),
-}
-
-fn bad(why: Why, place: FilePlace) -> Header
-    ensures { λ r. ⌜ r ≡ Header.Bad (record { why = why; place = place }) ⌝ }
-{
-    Header::Bad(Refusal { why, place })
-}
-
 // Steps a to e at `at`.
 pub fn header_at(file: &[u8], at: FilePlace) -> Header
     requires { ⌜ at .0 ≤ length (now file) ⌝ }
@@ -61,45 +42,36 @@ pub fn header_at(file: &[u8], at: FilePlace) -> Header
 {
     let left = file.len() - at.0;
     if left < 16 {
-        return bad(Why::Cut, at);
+        return Header::Bad(Why::Cut);
     }
     if section::held(file, at, OctetNumber(1), OctetNumber(4)) != 0x4752_4942 {
-        return bad(Why::NotGrib2, at);
+        return Header::Bad(Why::NotGrib2);
     }
     if section::held(file, at, OctetNumber(8), OctetNumber(8)) != 2 {
-        return bad(Why::NotGrib2, at);
+        return Header::Bad(Why::NotGrib2);
     }
     let length = section::held(file, at, OctetNumber(9), OctetNumber(16)) as usize;
     if length < 20 {
-        return bad(Why::BadLength, at);
+        return Header::Bad(Why::BadLength);
     }
     if left < length {
-        return bad(Why::Cut, at);
+        return Header::Bad(Why::Cut);
     }
     let end = FilePlace(at.0 + (length - 4));
     if octets::number_at(file, end, 4) != 0x3737_3737 {
-        return bad(Why::NoEnd, at);
+        return Header::Bad(Why::NoEnd);
     }
     Header::Sections(end)
 }
 
 // Steps a to f at `at`, in search of the message's field `k`.
-pub fn message_at(file: &[u8], at: FilePlace, k: usize) -> Message
+pub fn message_at(file: &[u8], at: FilePlace, k: usize) -> Walked
     requires { ⌜ at .0 ≤ length (now file) ⌝ }
     ensures { λ r. ⌜ r ≡ told k (message (now (file .entry)) (at .0)) ⌝ }
 {
     match header_at(file, at) {
-        Header::Sections(end) => {
-            let start = FilePlace(at.0 + 16);
-            match tiling_sections::fields_in(file, start, end, k) {
-                Walked::Fields { count, hit } => {
-                    let next = FilePlace(end.0 + 4);
-                    Message::Passed { count, next, hit }
-                }
-                Walked::Bad(refusal) => Message::Bad(refusal),
-            }
-        }
-        Header::Bad(refusal) => Message::Bad(refusal),
+        Header::Sections(end) => tiling_sections::fields_in(file, at, end, k),
+        Header::Bad(why) => Walked::Bad(Refusal { why, place: at }),
     }
 }
 
@@ -118,8 +90,8 @@ fn first_found(k: usize, past: usize, before: Located, last: Located) -> Located
 }
 
 // The messages of the file one after the other, in search of field `k`.
-fn tile(file: &[u8], k: usize) -> Tiles
-    ensures { λ r. ⌜ r ≡ answered k (tiles (now (file .entry))) ⌝ }
+fn tile(file: &[u8], k: usize) -> Found
+    ensures { λ r. ⌜ r ≡ foundIn k (tiles (now (file .entry))) ⌝ }
 {
     let mut at = FilePlace(0);
     let mut messages: usize = 0;
@@ -127,18 +99,18 @@ fn tile(file: &[u8], k: usize) -> Tiles
     let mut found = tiling_sections::nowhere();
     while at.0 < file.len() {
         match message_at(file, at, from_here(k, fields)) {
-            Message::Passed { count, next, hit } => {
+            Walked::Fields { count, next, hit } => {
                 found = first_found(k, fields, found, hit);
                 messages += 1;
                 fields += count;
                 at = next;
             }
-            Message::Bad(refusal) => {
-                return Tiles::Refused(refusal);
+            Walked::Bad(refusal) => {
+                return Found::Refused(refusal);
             }
         }
     }
-    Tiles::Tiled {
+    Found::Tiled {
         messages,
         fields,
         hit: found,
@@ -146,17 +118,17 @@ fn tile(file: &[u8], k: usize) -> Tiles
 }
 
 // The whole file, in search of field `k`: refusals 1 and 2 come first.
-fn read(file: &[u8], k: usize) -> Tiles
-    ensures { λ r. ⌜ r ≡ answered k (outcome (now (file .entry))) ⌝ }
+pub fn find(file: &[u8], k: usize) -> Found
+    ensures { λ r. ⌜ (r ≡ find (now (file .entry)) k) × Lying (now (file .entry)) k r ⌝ }
 {
     if 268_435_456 < file.len() {
-        return Tiles::Refused(Refusal {
+        return Found::Refused(Refusal {
             why: Why::TooLong,
             place: FilePlace(0),
         });
     }
     if file.len() == 0 {
-        return Tiles::Refused(Refusal {
+        return Found::Refused(Refusal {
             why: Why::Empty,
             place: FilePlace(0),
         });
@@ -168,35 +140,12 @@ fn read(file: &[u8], k: usize) -> Tiles
 pub fn check(file: &[u8]) -> Checked
     ensures { λ r. ⌜ r ≡ check (now (file .entry)) ⌝ }
 {
-    match read(file, 0) {
-        Tiles::Tiled {
+    match find(file, 0) {
+        Found::Tiled {
             messages,
             fields,
             hit: _,
         } => Checked::Counts { messages, fields },
-        Tiles::Refused(refusal) => Checked::Refused(refusal),
-    }
-}
-
-// Finds field `k`: where its sections start and the bitmap in force, or refusal 1 to 8.
-pub fn find(file: &[u8], k: usize) -> Found
-    ensures { λ r. ⌜ r ≡ find (now (file .entry)) k ⌝ }
-{
-    match read(file, k) {
-        Tiles::Tiled {
-            messages: _,
-            fields,
-            hit,
-        } => {
-            if k < fields {
-                Found::At(hit)
-            } else {
-                Found::Refused(Refusal {
-                    why: Why::NoSuchField,
-                    place: FilePlace(0),
-                })
-            }
-        }
-        Tiles::Refused(refusal) => Found::Refused(refusal),
+        Found::Refused(refusal) => Checked::Refused(refusal),
     }
 }

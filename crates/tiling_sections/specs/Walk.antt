@@ -15,8 +15,8 @@ use Rattle.tiling_sections.specs.declared.Bitmap.{Bitmap}
 use Rattle.tiling_sections.specs.declared.Bitmap.the-variants as Bitmap
 use Rattle.tiling_sections.specs.declared.Starts.{Starts}
 use Rattle.tiling_sections.specs.declared.Located.{Located}
-use Rattle.tiling_sections.specs.declared.Section.{Section}
-use Rattle.tiling_sections.specs.declared.Section.the-variants as Section
+use Rattle.tiling_sections.specs.declared.Step.{Step}
+use Rattle.tiling_sections.specs.declared.Step.the-variants as Step
 use Rattle.tiling_sections.specs.declared.Walked.{Walked}
 use Rattle.tiling_sections.specs.declared.Walked.the-variants as Walked
 
@@ -35,40 +35,47 @@ follows after n =
 -- What stands at p, where the sections end at e and `after` is the number of the section before. At the end a field must be finished, else 6.
 -- Before it, there must be room for a section's head, and the length must be one that holds the head and ends by e, else 5; and the number
 -- must be one that may follow, else 6.
-unfoldable pub sectionAt : List ℕ → ℕ → ℕ → ℕ → Section
+unfoldable pub sectionAt : List ℕ → ℕ → ℕ → ℕ → Step
 sectionAt file p e after =
     cond (eqb (e - p) 0)
-    (cond (eqb after 7) Section.End (Section.Bad (refusal Why.OutOfPlace e)))
-    (cond (ltb (e - p) 5) (Section.Bad (refusal Why.BadLength p))
-    (cond (ltb (lengthAt file p) 5) (Section.Bad (refusal Why.BadLength p))
-    (cond (ltb (e - p) (lengthAt file p)) (Section.Bad (refusal Why.BadLength p))
+    (cond (eqb after 7) Step.End (Step.Bad Why.OutOfPlace))
+    (cond (ltb (e - p) 5) (Step.Bad Why.BadLength)
+    (cond (ltb (lengthAt file p) 5) (Step.Bad Why.BadLength)
+    (cond (ltb (e - p) (lengthAt file p)) (Step.Bad Why.BadLength)
     (cond (follows after (kindAt file p))
-    (Section.Next (kindAt file p) (at (p + lengthAt file p)))
-    (Section.Bad (refusal Why.OutOfPlace p))))))
+    (Step.Next (kindAt file p) (at (p + lengthAt file p)))
+    (Step.Bad Why.OutOfPlace)))))
 
 -- Document 01, "Section 6": the bitmap that indicator 254 refers to is the last one in its grid. A section 6 from p up to q has one where octet
 -- 6, its indicator, is there and is 0.
 abbrev pub bitmapBehind : List ℕ → Bitmap → ℕ → ℕ → Bitmap
 bitmapBehind file bitmap p q = cond (leb 6 (q - p) && eqb (octetAt file (placeOf p 6)) 0) (Bitmap.At (at p)) bitmap
 
--- The bitmap, and the starts, in force behind a section numbered n, from p up to q.
+-- The bitmap in force behind a section numbered n, from p up to q.
 unfoldable pub bitmapAfter : List ℕ → Bitmap → ℕ → ℕ → ℕ → Bitmap
 bitmapAfter file bitmap n p q = cond (eqb n 3) Bitmap.Absent (cond (eqb n 6) (bitmapBehind file bitmap p q) bitmap)
 
+-- The place where section n starts, among those of a field; and the starts that a place for each section makes.
+abbrev pub startOf : Starts → ℕ → ℕ
+startOf s n =
+    cond (eqb n 0) (s .zero .0)
+    (cond (eqb n 1) (s .one .0)
+    (cond (eqb n 3) (s .three .0)
+    (cond (eqb n 4) (s .four .0)
+    (cond (eqb n 5) (s .five .0)
+    (cond (eqb n 6) (s .six .0)
+    (s .seven .0))))))
+
+abbrev pub startsBy : (ℕ → ℕ) → Starts
+startsBy place = record { zero = at (place 0); one = at (place 1); three = at (place 3); four = at (place 4); five = at (place 5); six = at (place 6); seven = at (place 7) }
+
+-- The starts in force behind a section numbered n that starts at p: its own is p, and the others are as before.
 unfoldable pub startsAfter : Starts → ℕ → ℕ → Starts
-startsAfter s n p =
-    record {
-      one = cond (eqb n 1) (at p) (s .one);
-      three = cond (eqb n 3) (at p) (s .three);
-      four = cond (eqb n 4) (at p) (s .four);
-      five = cond (eqb n 5) (at p) (s .five);
-      six = cond (eqb n 6) (at p) (s .six);
-      seven = cond (eqb n 7) (at p) (s .seven);
-    }
+startsAfter s n p = startsBy (λ i. cond (eqb n i) p (startOf s i))
 
 -- Where nothing lies yet.
 abbrev pub noStarts : Starts
-noStarts = record { one = at 0; three = at 0; four = at 0; five = at 0; six = at 0; seven = at 0 }
+noStarts = startsBy (λ _. 0)
 
 abbrev pub nowhere : Located
 nowhere = record { starts = noStarts; bitmap = Bitmap.Absent }
@@ -82,14 +89,14 @@ pub record Walking : Type 0 where
   pub bitmap : Bitmap
   pub fields : List Located
 
--- What it finds: the fields in order, or the first fault.
-pub data Tiled : Type 0 where
-  finished : List Located → Tiled
-  refused : Refusal → Tiled
+-- What it finds of a message: the place behind it and its fields in order, or the first fault.
+pub data InMessage : Type 0 where
+  passed : ℕ → List Located → InMessage
+  failed : Refusal → InMessage
 
 -- The field that is finished by a section numbered n, from where the walk is up to q.
-abbrev pub located : List ℕ → Walking → ℕ → ℕ → Located
-located file w n q = record { starts = startsAfter (w .starts) n (w .place); bitmap = bitmapAfter file (w .bitmap) n (w .place) q }
+abbrev pub finishedBy : List ℕ → Walking → ℕ → ℕ → Located
+finishedBy file w n q = record { starts = startsAfter (w .starts) n (w .place); bitmap = bitmapAfter file (w .bitmap) n (w .place) q }
 
 abbrev pub took : List ℕ → Walking → ℕ → ℕ → Walking
 took file w n q =
@@ -98,25 +105,29 @@ took file w n q =
       after = n;
       starts = startsAfter (w .starts) n (w .place);
       bitmap = bitmapAfter file (w .bitmap) n (w .place) q;
-      fields = cond (eqb n 7) (w .fields ++ (located file w n q ∷ [])) (w .fields);
+      fields = cond (eqb n 7) (w .fields ++ (finishedBy file w n q ∷ [])) (w .fields);
     }
 
-abbrev pub stepped : List ℕ → Walking → Section → Next Walking Tiled
-stepped file w (Section.Next n q) = go (took file w n (q .0))
-stepped file w Section.End = stop (finished (w .fields))
-stepped file w (Section.Bad r) = stop (refused r)
+-- A fault stands where the walk has come to. Behind the sections stand the message's last four octets.
+abbrev pub stepped : List ℕ → ℕ → Walking → Step → Next Walking InMessage
+stepped file e w (Step.Next n q) = go (took file w n (q .0))
+stepped file e w Step.End = stop (passed (e + 4) (w .fields))
+stepped file e w (Step.Bad why) = stop (failed (refusal why (w .place)))
 
-abbrev pub sectionStep : List ℕ → ℕ → Walking → Next Walking Tiled
-sectionStep file e w = stepped file w (sectionAt file (w .place) e (w .after))
+abbrev pub sectionStep : List ℕ → ℕ → Walking → Next Walking InMessage
+sectionStep file e w = stepped file e w (sectionAt file (w .place) e (w .after))
 
-abbrev pub walkFrom : List ℕ → ℕ → Walking → Tiled
-walkFrom file e = run (sectionStep file e) (finished []) (λ w. e - w .place)
+abbrev pub walkFrom : List ℕ → ℕ → Walking → InMessage
+walkFrom file e = run (sectionStep file e) (passed (e + 4) []) (λ w. e - w .place)
 
--- The sections of one message, from s up to e.
-abbrev pub sections : List ℕ → ℕ → ℕ → Tiled
-sections file s e = walkFrom file e (record { place = s; after = 0; starts = noStarts; bitmap = Bitmap.Absent; fields = [] })
+-- The message at p, whose sections stand behind the 16 octets of its section 0 and end at e.
+abbrev pub entering : ℕ → Walking
+entering p = record { place = p + 16; after = 0; starts = startsAfter noStarts 0 p; bitmap = Bitmap.Absent; fields = [] }
 
--- The same as the code tells it: how many fields, and where field k lies.
-abbrev pub counted : ℕ → Tiled → Walked
-counted k (finished fields) = Walked.Fields (length fields) (getD fields k nowhere)
-counted k (refused r) = Walked.Bad r
+abbrev pub sections : List ℕ → ℕ → ℕ → InMessage
+sections file p e = walkFrom file e (entering p)
+
+-- The same as the code tells it: how many fields, where the next message starts, and where field k lies.
+abbrev pub told : ℕ → InMessage → Walked
+told k (passed q fields) = Walked.Fields (length fields) (at q) (getD fields k nowhere)
+told k (failed r) = Walked.Bad r

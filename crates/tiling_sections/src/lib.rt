@@ -1,8 +1,8 @@
 // The sections of one message: what stands at a place, and the walk over all of them in search of a field (document 01, "Tiling a file", step f).
 ghost use mathlib.Core.Path.{_≡_};
-ghost use Prim.Native.Nat.{_+_, _<_, _≤_};
+ghost use Prim.Native.Nat.{_+_, _≤_};
 ghost use lib.ListN.{length};
-ghost use Rattle.tiling_sections.specs.Walk.{follows, sectionAt, bitmapBehind, startsAfter, nowhere, sections, counted};
+ghost use Rattle.tiling_sections.specs.Walk.{follows, sectionAt, bitmapBehind, startsAfter, nowhere, sections, told};
 use octets::FilePlace;
 use octets::OctetNumber;
 use refusals::Refusal;
@@ -14,8 +14,9 @@ pub enum Bitmap {
     At(FilePlace),
 }
 
-// Where the sections of a field start: sections 1 and 3 in force, and the field's own 4 to 7.
+// Where the sections of a field start: section 0, with which its message starts, sections 1 and 3 in force, and the field's own 4 to 7.
 pub struct Starts {
+    pub zero: FilePlace,
     pub one: FilePlace,
     pub three: FilePlace,
     pub four: FilePlace,
@@ -31,17 +32,23 @@ pub struct Located {
 }
 
 // What stands at a place between the sections of a message.
-pub enum Section {
+pub enum Step {
     // A section with this number, after which the next starts at `next`.
     Next { number: u8, next: FilePlace },
     // The end of the sections, after a finished field.
     End,
-    Bad(Refusal),
+    // A fault, which stands at that very place.
+    Bad(Why),
 }
 
-// What a walk over all sections of a message finds: how many fields, and where the one lies that is looked for.
+// What a walk over all sections of a message finds: how many fields, where the next message starts, and where the field lies that is looked
+// for; or the first fault.
 pub enum Walked {
-    Fields { count: usize, hit: Located },
+    Fields {
+        count: usize,
+        next: FilePlace,
+        hit: Located,
+    },
     Bad(Refusal),
 }
 
@@ -66,40 +73,34 @@ fn may_follow(after: u8, number: u8) -> bool
     }
 }
 
-fn bad(why: Why, place: FilePlace) -> Section
-    ensures { λ r. ⌜ r ≡ Section.Bad (record { why = why; place = place }) ⌝ }
-{
-    Section::Bad(Refusal { why, place })
-}
-
 // What stands at `at`, behind a section numbered `after`, where the sections of the message end at `end`.
-pub fn section_at(file: &[u8], at: FilePlace, end: FilePlace, after: u8) -> Section
+pub fn section_at(file: &[u8], at: FilePlace, end: FilePlace, after: u8) -> Step
     requires { ⌜ (at .0 ≤ end .0) × (end .0 ≤ length (now file)) ⌝ }
     ensures { λ r. ⌜ r ≡ sectionAt (now (file .entry)) (at .0) (end .0) after ⌝ }
 {
     let left = end.0 - at.0;
     if left == 0 {
         if after == 7 {
-            return Section::End;
+            return Step::End;
         }
-        return bad(Why::OutOfPlace, end);
+        return Step::Bad(Why::OutOfPlace);
     }
     if left < 5 {
-        return bad(Why::BadLength, at);
+        return Step::Bad(Why::BadLength);
     }
     let length = section::length_of(file, at);
     if length < 5 {
-        return bad(Why::BadLength, at);
+        return Step::Bad(Why::BadLength);
     }
     if left < length {
-        return bad(Why::BadLength, at);
+        return Step::Bad(Why::BadLength);
     }
     let number = section::octet(file, at, OctetNumber(5));
     if may_follow(after, number) {
         let next = FilePlace(at.0 + length);
-        Section::Next { number, next }
+        Step::Next { number, next }
     } else {
-        bad(Why::OutOfPlace, at)
+        Step::Bad(Why::OutOfPlace)
     }
 }
 
@@ -124,6 +125,10 @@ fn starts_after(starts: Starts, number: u8, at: FilePlace) -> Starts
 {
     let mut s = starts;
     match number {
+        0 => {
+            s.zero = at;
+            s
+        }
         1 => {
             s.one = at;
             s
@@ -157,6 +162,7 @@ pub fn nowhere() -> Located
 {
     let start = FilePlace(0);
     let starts = Starts {
+        zero: start,
         one: start,
         three: start,
         four: start,
@@ -168,21 +174,21 @@ pub fn nowhere() -> Located
     Located { starts, bitmap }
 }
 
-// The fields in the sections from `start` up to `end`, with the place of field `k` among them, or the first fault.
-pub fn fields_in(file: &[u8], start: FilePlace, end: FilePlace, k: usize) -> Walked
-    requires { ⌜ (start .0 ≤ end .0) × (end .0 ≤ length (now file)) ⌝ }
-    ensures { λ r. ⌜ r ≡ counted k (sections (now (file .entry)) (start .0) (end .0)) ⌝ }
+// The fields of the message at `message`, whose sections end at `end`, with the place of field `k` among them, or the first fault.
+pub fn fields_in(file: &[u8], message: FilePlace, end: FilePlace, k: usize) -> Walked
+    requires { ⌜ (message .0 + 16 ≤ end .0) × (end .0 + 4 ≤ length (now file)) ⌝ }
+    ensures { λ r. ⌜ r ≡ told k (sections (now (file .entry)) (message .0) (end .0)) ⌝ }
 {
     // Plain locals, and no struct of them: a struct with enums would be copied whole, padding and all, with each section.
     let mut hit = nowhere();
-    let mut starts = hit.starts;
+    let mut starts = starts_after(hit.starts, 0, message);
     let mut bitmap = Bitmap::Absent;
-    let mut at = start;
+    let mut at = FilePlace(message.0 + 16);
     let mut after: u8 = 0;
     let mut fields: usize = 0;
     loop {
         match section_at(file, at, end, after) {
-            Section::Next { number, next } => {
+            Step::Next { number, next } => {
                 let here = at;
                 at = next;
                 after = number;
@@ -199,11 +205,16 @@ pub fn fields_in(file: &[u8], start: FilePlace, end: FilePlace, k: usize) -> Wal
                     _ => {}
                 }
             }
-            Section::End => {
-                return Walked::Fields { count: fields, hit };
+            Step::End => {
+                let next = FilePlace(end.0 + 4);
+                return Walked::Fields {
+                    count: fields,
+                    next,
+                    hit,
+                };
             }
-            Section::Bad(refusal) => {
-                return Walked::Bad(refusal);
+            Step::Bad(why) => {
+                return Walked::Bad(Refusal { why, place: at });
             }
         }
     }

@@ -1,13 +1,18 @@
 -- `listing::main` is safe and ends: what is listed lies inside the text that it is put into.
-use mathlib.Core.Path.{sym}
-use Prim.Native.Nat.{_≤_}
-use lib.ListN.{length}
+use mathlib.Core.Path.{_≡_, sym}
+use Prim.Native.Nat.{ℕ, _≤_}
+use native.Mathlib.Nat.{le-of-eq}
+use lib.ListN.{length, replicate, length-replicate}
 use lib.Seq.{length-take-le}
 use borrow.Author.Needs.{needs}
 use Rattle.listing_file.specs.Listing.{listingOf}
 use Rattle.listing_file.proofs.Laws.{start-inside}
 use Rattle.listing.proofs.main.Statement.{statement}
 use Rattle.listing.proofs.main.Tie as tie
+
+-- So many zeros are as many as that: a law, since counting them one by one takes a gigabyte of the checker's stack.
+zeros : (n : ℕ) → n ≡ length (replicate {A = ℕ} n 0)
+zeros n = sym (length-replicate n 0)
 
 inside : (c : tie.After-list) → c .list .result ≤ length (c .list .last .0)
 inside c = start-inside _ (listingOf _) (c .list .ensures)
@@ -31,7 +36,7 @@ returns : tie.Need-returns
 returns c = search needs
 
 slice-aggregate-list : tie.Need-slice-aggregate-list
-slice-aggregate-list c = search needs
+slice-aggregate-list c = zeros 655360
 
 array-share-prefix-input : tie.Need-array-share-prefix-input
 array-share-prefix-input c = search needs
@@ -40,7 +45,7 @@ slice-aggregate-list-2 : tie.Need-slice-aggregate-list-2
 slice-aggregate-list-2 c = search needs
 
 list-requires : tie.Need-list-requires
-list-requires c κs = search needs
+list-requires c κs = le-of-eq (zeros 655360)
 
 array-share-prefix-text : tie.Need-array-share-prefix-text
 array-share-prefix-text c = inside (c .before)

@@ -1,4 +1,4 @@
--- `tiling::check` meets its contract: the counts are those that `read` has found.
+-- `tiling::check` meets its contract: the counts are those that `find` has found.
 use mathlib.Core.Path.{_≡_, ap, sym, _∙_}
 use borrow.Author.Needs.{needs}
 use Rattle.tiling.specs.Tiling.{check}
@@ -6,12 +6,12 @@ use Rattle.tiling.proofs.Come.{countsOf, check-counts}
 use Rattle.tiling.proofs.check.Statement.{statement}
 use Rattle.tiling.proofs.check.Tie as tie
 
-read-requires : tie.Need-read-requires
-read-requires c κs = search needs
+find-requires : tie.Need-find-requires
+find-requires c κs = search needs
 
--- The definition's answer, by what `read` has found.
-counts : (c : tie.After-read) → check (c .before .before .args .file .now) ≡ countsOf (c .read .result)
-counts c = check-counts (c .before .before .args .file .now) 0 (sym (c .read .ensures))
+-- The definition's answer, by what `find` has found.
+counts : (c : tie.After-find) → check (c .before .before .args .file .now) ≡ countsOf (c .find .result)
+counts c = check-counts (c .before .before .args .file .now) 0 (sym (c .find .ensures .0))
 
 enum-known-messages : tie.Need-enum-known-messages
 enum-known-messages c = search needs
@@ -27,4 +27,4 @@ returns-2 c = sym (counts (c .before .before .before) ∙ ap countsOf (c .before
 
 pub check-spec : {M : Type 1} → statement M
 check-spec =
-    tie.close (tie.spec read-requires enum-known-messages enum-known-refusal returns returns-2)
+    tie.close (tie.spec find-requires enum-known-messages enum-known-refusal returns returns-2)

@@ -1,35 +1,33 @@
--- `tiling::find` meets its contract: the place is the one that `read` has found, where field k is among the fields.
-use mathlib.Core.Path.{_≡_, ap, sym, _∙_}
+-- `tiling::find` meets its contract: its tests are those of the definition, in the same order.
+use mathlib.Core.Path.{_≡_, sym, subst}
 use borrow.Author.Needs.{needs}
-use borrow.Author.Tests.{lt-ltb, le-ltb}
+use borrow.Author.Tests.{eq-eqb, ne-eqb, lt-ltb, le-ltb}
+use mathlib.Core.List.{List}
+use Prim.Native.Nat.{ℕ}
+use Rattle.tiling.specs.declared.Found.{Found}
 use Rattle.tiling.specs.Tiling.{find}
-use Rattle.tiling.proofs.Come.{placeIn, find-place}
+use Rattle.tiling.specs.Lying.{Lying}
+use Rattle.tiling.proofs.Bounds.{find-lying}
 use Rattle.tiling.proofs.find.Statement.{statement}
 use Rattle.tiling.proofs.find.Tie as tie
 
-read-requires : tie.Need-read-requires
-read-requires c κs = search needs
-
--- The definition's answer, by what `read` has found.
-place : (c : tie.After-read) → let a = c .before .before .args in find (a .file .now) (a .k) ≡ placeIn (a .k) (c .read .result)
-place c = let a = c .before .before .args in find-place (a .file .now) (a .k) (sym (c .read .ensures))
-
-enum-known-fields : tie.Need-enum-known-fields
-enum-known-fields c = search needs
-
-enum-known-refusal : tie.Need-enum-known-refusal
-enum-known-refusal c = search needs
+-- What find answers by its definition lies in the file.
+answers : (file : List ℕ) (k : ℕ) {r : Found} → r ≡ find file k → (r ≡ find file k) × Lying file k r
+answers file k e = (e, subst (Lying file k) (sym e) (find-lying file k))
 
 returns : tie.Need-returns
-returns c = sym (place (c .before .before .before .before) ∙ ap (placeIn _) (c .before .before .fields .given .1) ∙ rw (lt-ltb _ _ (c .if1 .taken)))
+returns c = let a = c .before .before .args in answers (a .file .now) (a .k) (simp (lt-ltb _ _ (c .if1 .taken)))
 
 returns-2 : tie.Need-returns-2
-returns-2 c = sym (place (c .before .before .before .before) ∙ ap (placeIn _) (c .before .before .fields .given .1) ∙ rw (le-ltb _ _ (c .if1 .left)))
+returns-2 c = let a = c .before .before .before .args in answers (a .file .now) (a .k) (simp (le-ltb _ _ (c .before .if1 .left), eq-eqb _ _ (c .if2 .taken)))
+
+tile-requires : tie.Need-tile-requires
+tile-requires c κs = search needs
 
 returns-3 : tie.Need-returns-3
-returns-3 c = sym (place (c .before .before .before) ∙ ap (placeIn _) (c .before .refusal .given .1))
+returns-3 c =
+    let a = c .before .before .before .before .args in
+    answers (a .file .now) (a .k) (simp (le-ltb _ _ (c .before .before .if1 .left), ne-eqb _ _ (c .before .if2 .left)) (c .tile .ensures))
 
 pub find-spec : {M : Type 1} → statement M
-find-spec =
-    tie.close
-    (tie.spec read-requires enum-known-fields enum-known-refusal returns returns-2 returns-3)
+find-spec = tie.close (tie.spec returns returns-2 tile-requires returns-3)

@@ -3,7 +3,7 @@
 use mathlib.Core.Path.{_≡_, sym, _∙_}
 use native.Mathlib.Omega.{arith}
 use borrow.Author.Needs.{needs}
-use Rattle.tiling.specs.Tiling.{lastAt}
+use Rattle.tiling.specs.Tiling.{closingAt}
 use Rattle.tiling.specs.Heads.{Opens, Holds, few, strange, short, long, endless, headed}
 use Rattle.tiling.proofs.Laws.{heads-only}
 use Rattle.tiling.proofs.header_at.Statement.{statement}
@@ -12,29 +12,20 @@ use Rattle.tiling.proofs.header_at.Tie as tie
 sub-left : tie.Need-sub-left
 sub-left c = search needs
 
-bad-requires : tie.Need-bad-requires
-bad-requires c κs = search needs
-
 returns : tie.Need-returns
-returns c = c .bad .ensures ∙ sym (heads-only _ _ (few (omega arith)))
+returns c = sym (heads-only _ _ (few (omega arith)))
 
 held-requires : tie.Need-held-requires
 held-requires c κs = search needs
 
-bad-requires-2 : tie.Need-bad-requires-2
-bad-requires-2 c κs = search needs
-
 returns-2 : tie.Need-returns-2
-returns-2 c = c .bad2 .ensures ∙ sym (heads-only _ _ (strange (omega arith) (λ opens. c .before .if2 .taken (c .before .before .held .ensures .0 ∙ opens .mark))))
+returns-2 c = sym (heads-only _ _ (strange (omega arith) (λ opens. c .if2 .taken (c .before .held .ensures .0 ∙ opens .mark))))
 
 held-requires-2 : tie.Need-held-requires-2
 held-requires-2 c κs = search needs
 
-bad-requires-3 : tie.Need-bad-requires-3
-bad-requires-3 c κs = search needs
-
 returns-3 : tie.Need-returns-3
-returns-3 c = c .bad3 .ensures ∙ sym (heads-only _ _ (strange (omega arith) (λ opens. c .before .if3 .taken (c .before .before .held2 .ensures .0 ∙ opens .edition))))
+returns-3 c = sym (heads-only _ _ (strange (omega arith) (λ opens. c .if3 .taken (c .before .held2 .ensures .0 ∙ opens .edition))))
 
 held-requires-3 : tie.Need-held-requires-3
 held-requires-3 c κs = search needs
@@ -50,19 +41,13 @@ opens c =
       edition = sym (c .before .held2 .ensures .0) ∙ c .if3 .left;
     }
 
-bad-requires-4 : tie.Need-bad-requires-4
-bad-requires-4 c κs = search needs
-
 returns-4 : tie.Need-returns-4
-returns-4 c = c .bad4 .ensures ∙ sym (heads-only _ _ (short (opens (c .before .before .before)) (omega (arith, c .before .before .held3 .ensures .0))))
-
-bad-requires-5 : tie.Need-bad-requires-5
-bad-requires-5 c κs = search needs
+returns-4 c = sym (heads-only _ _ (short (opens (c .before .before)) (omega (arith, c .before .held3 .ensures .0))))
 
 returns-5 : tie.Need-returns-5
 returns-5 c =
-    let length = c .before .before .before .held3 .ensures .0 in
-    c .bad5 .ensures ∙ sym (heads-only _ _ (long (opens (c .before .before .before .before)) (omega arith) (omega arith)))
+    let length = c .before .before .held3 .ensures .0 in
+    sym (heads-only _ _ (long (opens (c .before .before .before)) (omega arith) (omega arith)))
 
 sub-t6 : tie.Need-sub-t6
 sub-t6 c = search needs
@@ -84,16 +69,11 @@ holds c =
 -- The last four octets that are read are the message's.
 last : (c : tie.After-number-at) →
     let a = c .before .before .before .before .before .before .before .before .before .before .before .before .args in
-    c .number-at .result ≡ lastAt (a .file .now) (a .at .0)
+    c .number-at .result ≡ closingAt (a .file .now) (a .at .0)
 last c = rw (c .before .before .before .before .held3 .ensures .0) at (c .number-at .ensures .0)
 
-bad-requires-6 : tie.Need-bad-requires-6
-bad-requires-6 c κs = search needs
-
 returns-6 : tie.Need-returns-6
-returns-6 c =
-    c .bad6 .ensures
-    ∙ sym (heads-only _ _ (endless (holds (c .before .before .before .before)) (λ sevens. c .before .if6 .taken (last (c .before .before) ∙ sevens))))
+returns-6 c = sym (heads-only _ _ (endless (holds (c .before .before .before)) (λ sevens. c .if6 .taken (last (c .before) ∙ sevens))))
 
 returns-7 : tie.Need-returns-7
 returns-7 c =
@@ -105,22 +85,16 @@ header-at-spec =
     tie.close
     (tie.spec
     sub-left
-    bad-requires
     returns
     held-requires
-    bad-requires-2
     returns-2
     held-requires-2
-    bad-requires-3
     returns-3
     held-requires-3
-    bad-requires-4
     returns-4
-    bad-requires-5
     returns-5
     sub-t6
     add-t16
     number-at-requires
-    bad-requires-6
     returns-6
     returns-7)

@@ -16,32 +16,20 @@ sub-left c = search needs
 returns : tie.Need-returns
 returns c = sym (stands-only _ _ _ _ (ends (omega arith) (c .if2 .taken)))
 
-bad-requires : tie.Need-bad-requires
-bad-requires c κs = search needs
-
 returns-2 : tie.Need-returns-2
-returns-2 c = c .bad .ensures ∙ sym (stands-only _ _ _ _ (unfinished (omega arith) (c .before .if2 .left)))
-
-bad-requires-2 : tie.Need-bad-requires-2
-bad-requires-2 c κs = search needs
+returns-2 c = sym (stands-only _ _ _ _ (unfinished (omega arith) (c .if2 .left)))
 
 returns-3 : tie.Need-returns-3
-returns-3 c = c .bad2 .ensures ∙ sym (stands-only _ _ _ _ (misfit (omega arith) (λ fits. omega arith)))
+returns-3 c = sym (stands-only _ _ _ _ (misfit (omega arith) (λ fits. omega arith)))
 
 length-of-requires : tie.Need-length-of-requires
 length-of-requires c κs = search needs
 
-bad-requires-3 : tie.Need-bad-requires-3
-bad-requires-3 c κs = search needs
-
 returns-4 : tie.Need-returns-4
-returns-4 c = c .bad3 .ensures ∙ sym (stands-only _ _ _ _ (misfit (omega arith) (λ fits. omega (arith, c .before .before .length-of .ensures))))
-
-bad-requires-4 : tie.Need-bad-requires-4
-bad-requires-4 c κs = search needs
+returns-4 c = sym (stands-only _ _ _ _ (misfit (omega arith) (λ fits. omega (arith, c .before .length-of .ensures))))
 
 returns-5 : tie.Need-returns-5
-returns-5 c = c .bad4 .ensures ∙ sym (stands-only _ _ _ _ (misfit (omega arith) (λ fits. omega (arith, c .before .before .before .length-of .ensures))))
+returns-5 c = sym (stands-only _ _ _ _ (misfit (omega arith) (λ fits. omega (arith, c .before .before .length-of .ensures))))
 
 octet-requires : tie.Need-octet-requires
 octet-requires c κs = search needs
@@ -51,9 +39,6 @@ may-follow-requires c κs = search needs
 
 add-t18 : tie.Need-add-t18
 add-t18 c = search needs
-
-bad-requires-5 : tie.Need-bad-requires-5
-bad-requires-5 c κs = search needs
 
 -- Past all tests of the length, a section fits.
 fits : (c : tie.Else5) →
@@ -73,9 +58,7 @@ returns-6 c =
     (sym (stands-only _ _ _ _ (next (fits (c .before .before .before .before)) (sym (said (c .before .before)) ∙ c .before .if6 .taken))))
 
 returns-7 : tie.Need-returns-7
-returns-7 c =
-    c .bad5 .ensures
-    ∙ sym (stands-only _ _ _ _ (strange (fits (c .before .before .before .before)) (sym (said (c .before .before)) ∙ c .before .if6 .left)))
+returns-7 c = sym (stands-only _ _ _ _ (strange (fits (c .before .before .before)) (sym (said (c .before)) ∙ c .if6 .left)))
 
 pub section-at-spec : {M : Type 1} → statement M
 section-at-spec =
@@ -83,18 +66,13 @@ section-at-spec =
     (tie.spec
     sub-left
     returns
-    bad-requires
     returns-2
-    bad-requires-2
     returns-3
     length-of-requires
-    bad-requires-3
     returns-4
-    bad-requires-4
     returns-5
     octet-requires
     may-follow-requires
     add-t18
-    bad-requires-5
     returns-6
     returns-7)

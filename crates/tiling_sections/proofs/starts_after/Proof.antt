@@ -30,9 +30,14 @@ returns-6 c = rw (c .match .keys6)
 
 returns-7 : tie.Need-returns-7
 unfolding startsAfter
-returns-7 c =
+returns-7 c = rw (c .match .keys7)
+
+returns-8 : tie.Need-returns-8
+unfolding startsAfter
+returns-8 c =
     let others = c .match .rest in
     simp (
+      ne-eqb _ 0 (others .0 .0 .0 .0 .0 .0 .1),
       ne-eqb _ 1 (others .0 .0 .0 .0 .0 .1),
       ne-eqb _ 3 (others .0 .0 .0 .0 .1),
       ne-eqb _ 4 (others .0 .0 .0 .1),
@@ -43,4 +48,4 @@ returns-7 c =
 
 pub starts-after-spec : {M : Type 1} → statement M
 starts-after-spec =
-    tie.close (tie.spec returns returns-2 returns-3 returns-4 returns-5 returns-6 returns-7)
+    tie.close (tie.spec returns returns-2 returns-3 returns-4 returns-5 returns-6 returns-7 returns-8)
