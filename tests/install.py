@@ -29,6 +29,8 @@ PAGES = [path for path in MODES if path.startswith('share/man/')]
 FOREIGN = sorted({os.path.join(os.path.dirname(path), 'of-others') for path in MODES})
 LANGUAGES = [('gcc', 'c', 'c99'), ('g++', 'c++', 'c++98'), ('g++', 'c++', 'c++20')]
 STRICT = ['-Wall', '-Wextra', '-pedantic', '-Werror', '-O2'] + ([] if archive.NATIVE else ['-static'])
+# What a program for another processor is linked with. It is not what g++ takes by itself, since Debian's cross libm.a looks for its parts where they are not.
+WHOLE = [] if archive.NATIVE else ['-nodefaultlibs', '-Wl,--start-group', '-lc', '-lgcc', '-lgcc_eh', '-Wl,--end-group']
 SAMPLES = {name: os.path.join(TOP, 'samples', name) for name in ('two-fields.grib2', 'accident.grib2')}
 # A function or a constant of ours.
 NAME = r'\b(?:skeptolyr|SKEPTOLYR)_\w+'
@@ -190,7 +192,7 @@ def compiled(prefix, folder, source, compiler, language, standard):
     """A program of a user, compiled in a folder of its own. The answer is the command that runs it, or what the compiler said."""
     write(os.path.join(folder, 'source'), source)
     words = [archive.compiler(compiler), '-std=' + standard, *STRICT, '-x', language, 'source', '-x', 'none']
-    done = subprocess.run([*words, *from_pkg_config(prefix, '--cflags', '--libs'), '-o', 'program'], cwd=folder, stdout=subprocess.PIPE, stderr=subprocess.STDOUT, text=True)
+    done = subprocess.run([*words, *from_pkg_config(prefix, '--cflags', '--libs'), *WHOLE, '-o', 'program'], cwd=folder, stdout=subprocess.PIPE, stderr=subprocess.STDOUT, text=True)
     return (archive.command(os.path.join(folder, 'program')), '') if done.returncode == 0 else (None, done.stdout)
 
 
