@@ -10,7 +10,7 @@ use Rattle.bits_reader.specs.declared.ReadPair.{ReadPair}
 use Rattle.bits_reader.specs.declared.TakenPair.{TakenPair}
 
 -- One number of b bits.
-pub record Found (reader : BitReader) (b : ℕ) (read : Read) : Type 0 where
+pub record NumberFound (reader : BitReader) (b : ℕ) (read : Read) : Type 0 where
   pub number : read .number ≡ bitsAt (now (reader .run)) (reader .at .0) b
   pub sameRun : read .reader .run ≡ reader .run
   pub behind : read .reader .at .0 ≡ reader .at .0 + b

@@ -4,7 +4,7 @@ ghost use mathlib.Core.Path.{_≡_};
 ghost use Prim.Native.Nat.{_+_, _*_, _/_, _≤_, _<_, _^_};
 ghost use lib.ListN.{length};
 ghost use Rattle.bits.specs.Bits.{bitsAt};
-ghost use Rattle.bits_reader.specs.Reading.{Found, PairFound, PairTaken};
+ghost use Rattle.bits_reader.specs.Reading.{NumberFound, PairFound, PairTaken};
 use bits::Pair;
 use octets::BitPlace;
 
@@ -48,7 +48,7 @@ pub fn new<'a>(run: &'a [u8], at: BitPlace) -> BitReader<'a>
 // The number of b bits where the reader stands, and the reader behind it.
 pub fn next<'a>(reader: BitReader<'a>, b: u32) -> Read<'a>
     requires { ⌜ (reader .at .0 + b < 2 ^ 64) × (b ≤ 32) ⌝ }
-    ensures { λ r. ⌜ Found (reader .entry) b r ⌝ }
+    ensures { λ r. ⌜ NumberFound (reader .entry) b r ⌝ }
 {
     let run = reader.run;
     let at = reader.at;

@@ -1,13 +1,14 @@
--- The laws of the refusals' numbers: no two refusals share one, and what C is given tells the refusal and its place.
+-- The laws of refusals: no two share a number, what C is given tells the refusal and its place, and in which order they are tried.
 use mathlib.Core.Path.{_≡_, refl, sym, ap, _∙_}
 use mathlib.Core.List.{List, [], _∷_}
 use Prim.Native.Nat.{ℕ, _-_, _/_, _%_, _^_, _≤_, _<_}
 use native.Mathlib.Omega.{arith}
+use lib.Dec.{lit<}
 use lib.ListN.{getD}
 use Rattle.refusals.specs.declared.Refusal.{Refusal}
 use Rattle.refusals.specs.declared.Why.{Why}
 use Rattle.refusals.specs.declared.Why.the-variants as Why
-use Rattle.refusals.specs.Refusals.{numberOf, codeOf}
+use Rattle.refusals.specs.Refusals.{numberOf, codeOf, order, stepsBefore}
 
 -- The numbers run from 1 to 19.
 pub numbered : (why : Why) → (1 ≤ numberOf why) × (numberOf why ≤ 19)
@@ -72,3 +73,22 @@ code-tells r h = told (numbered (r .why))
   where
     told : (1 ≤ numberOf (r .why)) × (numberOf (r .why) ≤ 19) → Told r
     told n = record { isRefusal = omega arith; number = omega arith; place = omega arith; fits = omega arith }
+
+-- The order of refusals, step by step: whoever compares two of them adds up these steps.
+pub record InOrder : Type 0 where
+  pub tiling : (stepsBefore order 1 < stepsBefore order 2) × (stepsBefore order 2 < stepsBefore order 3)
+  pub field : (stepsBefore order 3 < stepsBefore order 8) × (stepsBefore order 8 < stepsBefore order 9)
+  pub sections : (stepsBefore order 9 < stepsBefore order 10) × (stepsBefore order 10 < stepsBefore order 11) × (stepsBefore order 11 < stepsBefore order 12)
+  pub packing : (stepsBefore order 12 < stepsBefore order 13) × (stepsBefore order 13 < stepsBefore order 14)
+  pub asked : (stepsBefore order 14 < stepsBefore order 17) × (stepsBefore order 17 < stepsBefore order 15) × (stepsBefore order 15 < stepsBefore order 16)
+
+pub in-order : InOrder
+unfolding stepsBefore
+in-order =
+    record {
+      tiling = (lit< tt, lit< tt);
+      field = (lit< tt, lit< tt);
+      sections = (lit< tt, lit< tt, lit< tt);
+      packing = (lit< tt, lit< tt);
+      asked = (lit< tt, lit< tt, lit< tt);
+    }

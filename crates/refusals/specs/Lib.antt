@@ -1,2 +1,2 @@
--- What the refusals' numbers are.
+-- What the refusals' numbers are, and in which order they are tried.
 pub mod Refusals

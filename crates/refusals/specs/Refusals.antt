@@ -1,5 +1,8 @@
--- Document 01, "Refusals by number": the number that each refusal has, and what C is given for it.
-use Prim.Native.Nat.{ℕ, _+_, _*_, _^_}
+-- Document 01, "Refusals by number": the number that each refusal has, what C is given for it, and the order in which refusals are tried.
+use Prim.Native.Nat.{ℕ, suc, _+_, _*_, _^_}
+use mathlib.Core.List.{List, [], _∷_}
+use mathlib.Core.Bool.{cond, _&&_}
+use lib.Dec.{eqb, leb}
 use Rattle.octets.specs.Places.{at}
 use Rattle.refusals.specs.declared.Why.{Why}
 use Rattle.refusals.specs.declared.Why.the-variants as Why
@@ -34,3 +37,21 @@ numberOf Why.NotRebuildable = 19
 -- What C is given for a refusal: 2^63 + number x 2^32 + place.
 abbrev pub codeOf : Refusal → ℕ
 codeOf r = 2 ^ 63 + numberOf (r .why) * 2 ^ 32 + r .place .0
+
+-- The order in which refusals are tried, first to last, by their numbers: it is an order of its own, and not that of the numbers. A program's input is judged before all else; then the file's length and its tiling; then the
+-- field, its sections in force, and what is asked of the field.
+abbrev pub order : List ℕ
+order = 18 ∷ 1 ∷ 2 ∷ 3 ∷ 8 ∷ 9 ∷ 10 ∷ 11 ∷ 12 ∷ 13 ∷ 14 ∷ 17 ∷ 15 ∷ 16 ∷ 19 ∷ []
+
+-- The faults of the tiling, 3 to 7, have one step in it, for which 3 stands: among them the file's own order decides.
+abbrev pub stepOf : ℕ → ℕ
+stepOf number = cond (leb 3 number && leb number 7) 3 number
+
+-- How many steps come before one.
+unfoldable pub stepsBefore : List ℕ → ℕ → ℕ
+stepsBefore [] step = 0
+stepsBefore (first ∷ later) step = cond (eqb first step) 0 (suc (stepsBefore later step))
+
+-- Where a refusal stands in the order.
+abbrev pub rank : Refusal → ℕ
+rank r = stepsBefore order (stepOf (numberOf (r .why)))

@@ -1,13 +1,11 @@
 -- Document 01, "Section 6": which points of a field are present.
 use Prim.Native.Nat.{ℕ, zero, suc, _+_}
 use mathlib.Core.Bool.{Bool, _&&_, cond}
-use mathlib.Core.Path.{_≡_}
 use mathlib.Core.List.{List}
 use lib.Dec.{eqb, ltb}
 use lib.ListN.{take, drop}
-use Rattle.octets.specs.declared.FilePlace.{FilePlace}
 use Rattle.octets.specs.Places.{at, placeOf}
-use Rattle.section.specs.Sections.{octet, lengthAt, Lies}
+use Rattle.section.specs.Sections.{octet, lengthAt}
 use Rattle.bits.specs.Bits.{bitAt, octetsOf}
 use Rattle.tiling_sections.specs.declared.Bitmap.{Bitmap}
 use Rattle.tiling_sections.specs.declared.Bitmap.the-variants as Bitmap
@@ -15,10 +13,6 @@ use Rattle.section_6.specs.declared.Presence as declared
 use Rattle.section_6.specs.declared.Presence.the-variants as Presence
 use Rattle.section_6.specs.declared.Marked.{Marked}
 use Rattle.section_6.specs.declared.Marked.the-variants as Marked
-
--- Where a bitmap is in force, the section that has it lies in the file.
-abbrev pub Stored : List ℕ → Bitmap → Type 0
-Stored file bitmap = (p : FilePlace) → bitmap ≡ Bitmap.At p → Lies file (p .0)
 
 -- A bitmap has a bit for each point, from octet 7 of its section on. So the section's length is 6 octets and those of the bits.
 abbrev pub bitmapLength : ℕ → ℕ

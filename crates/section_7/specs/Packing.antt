@@ -53,14 +53,11 @@ abbrev pub groupsIn : List ℕ → ℕ → ℕ → Grouping → Groups
 groupsIn file s bits g = record { layout = layoutOf bits g; grouping = g; bits = bits; differencing = differencingAt file s (g .extra) }
 
 -- What the section at s holds. It is taken where it holds the N values of a representation, and nothing else.
-abbrev pub simpleAt : List ℕ → ℕ → ℕ → ℕ → Packed
-simpleAt file s n bits = cond (eqb (lengthAt file s) (simpleLength n bits)) (Packed.As Data.Simple) Packed.NotTaken
-
 abbrev pub groupedAt : List ℕ → ℕ → ℕ → ℕ → Grouping → Packed
 groupedAt file s n bits g = cond (isGrouped file s n bits g) (Packed.As (Data.Complex (groupsIn file s bits g))) Packed.NotTaken
 
 abbrev pub packedBy : List ℕ → ℕ → ℕ → ℕ → Template → Packed
-packedBy file s n bits Template.Simple = simpleAt file s n bits
+packedBy file s n bits Template.Simple = cond (eqb (lengthAt file s) (simpleLength n bits)) (Packed.As Data.Simple) Packed.NotTaken
 packedBy file s n bits (Template.Complex g) = groupedAt file s n bits g
 
 unfoldable pub dataAt : List ℕ → ℕ → Representation → Packed

@@ -14,7 +14,7 @@ use Rattle.tiling_sections.specs.declared.Bitmap.the-variants as Bitmap
 use Rattle.tiling_sections.specs.declared.Starts.{Starts}
 use Rattle.tiling_sections.specs.declared.Located.{Located}
 use Rattle.tiling_sections.specs.declared.Step.the-variants as Step
-use Rattle.tiling_sections.specs.Walk.{follows, sectionAt, startsAfter, bitmapAfter, noStarts, Walking, InMessage, passed, took, stepped, sectionStep, sections}
+use Rattle.tiling_sections.specs.Walk.{follows, sectionAt, startsAfter, bitmapAfter, nowhere, Walking, InMessage, passed, took, stepped, sectionStep, sections}
 use Rattle.tiling_sections.specs.Stands as Stands
 use Rattle.tiling_sections.proofs.Laws.{stands-only, trace-walk}
 use Rattle.tiling.specs.declared.Header.the-variants as Header
@@ -117,7 +117,7 @@ module _ (file : List ℕ) (e : ℕ) where
   sections-complete {p} {fs} one grids =
       trace-walk file e
       (section-goes one (omega (arith, grids-grow grids)) refl
-      (grids-go 1 grids (omega arith) refl 0 Bitmap.Absent noStarts [] (passed (e + 4) fs)
+      (grids-go 1 grids (omega arith) refl 0 Bitmap.Absent (nowhere .starts) [] (passed (e + 4) fs)
       (λ three bitmap before. halts (ap (stepped file e (walkingAt e 7 (inForce p (p + 16) three bitmap before) fs)) (stands-only file e e 7 (Stands.ends (omega arith) refl))))))
 
 module _ {file : List ℕ} where

@@ -7,7 +7,7 @@ use Rattle.octets.specs.Places.{at}
 use Rattle.tiling_sections.specs.declared.Bitmap.{Bitmap}
 use Rattle.tiling_sections.specs.declared.Bitmap.the-variants as Bitmap
 use Rattle.tiling_sections.specs.declared.Located.{Located}
-use Rattle.tiling_sections.specs.Walk.{startOf, startsBy}
+use Rattle.tiling_sections.specs.Walk.{sectionStart, startsBy}
 
 -- Where a place lies that is moved with the message from a to c.
 abbrev pub moved : ℕ → ℕ → ℕ → ℕ
@@ -24,4 +24,4 @@ module _ (a c : ℕ) where
   bitmapMoved (Bitmap.At p) = Bitmap.At (at (moved a c (p .0)))
 
   abbrev pub locatedMoved : Located → Located
-  locatedMoved l = record { starts = startsBy (λ n. moved a c (startOf (l .starts) n)); bitmap = bitmapMoved (l .bitmap) }
+  locatedMoved l = record { starts = startsBy (λ n. moved a c (sectionStart (l .starts) n)); bitmap = bitmapMoved (l .bitmap) }

@@ -6,6 +6,7 @@ use mathlib.Core.List.{List}
 use native.Mathlib.Nat.{le-of-lt}
 use native.Mathlib.Omega.{arith}
 use lib.ListN.{length, getD, length-append}
+use Rattle.octets.proofs.Cases.{apart}
 use Rattle.refusals.specs.declared.Refusal.{Refusal}
 use Rattle.laws_machine.specs.Machine.{go, stop, Trace, halts, steps}
 use Rattle.tiling_sections.specs.declared.Located.{Located}
@@ -66,6 +67,14 @@ module _ (file : List ℕ) where
       by : (o : InFile) → tilingOf file ≡ o → Small (checked o)
       by (tiled m fields) h = let sound = tiled-sound h in omega (arith, sound .0, sound .1 .fewMessages, sound .1 .fewFields)
       by (refused r) h = check-placed file (ap checked h) .1
+
+  -- A file has at most one field for every 20 octets.
+  pub check-few : {m n : ℕ} → check file ≡ Checked.Counts m n → 20 * n ≤ length file
+  check-few {m} {n} = by (tilingOf file) refl
+    where
+      by : (o : InFile) → tilingOf file ≡ o → checked o ≡ Checked.Counts m n → 20 * n ≤ length file
+      by (tiled k fields) h e = let same : length fields ≡ n = cc in omega (arith, tiled-sound h .1 .fewFields, same)
+      by (refused r) h e = apart cc
 
   -- Where a file is tiled, the sections of its field k lie in it.
   pub field-laid : {m : ℕ} {fields : List Located} (k : ℕ) → tilingOf file ≡ tiled m fields → k < length fields → Laid file (getD fields k nowhere)

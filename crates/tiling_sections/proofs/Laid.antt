@@ -18,7 +18,7 @@ use Rattle.tiling_sections.specs.declared.Bitmap.{Bitmap}
 use Rattle.tiling_sections.specs.declared.Bitmap.the-variants as Bitmap
 use Rattle.tiling_sections.specs.declared.Starts.{Starts}
 use Rattle.tiling_sections.specs.declared.Located.{Located}
-use Rattle.tiling_sections.specs.Walk.{startOf, startsBy, startsAfter, bitmapAfter, nowhere, Walking, InMessage, passed, failed, finishedBy, sectionStep, entering, sections}
+use Rattle.tiling_sections.specs.Walk.{sectionStart, startsBy, startsAfter, bitmapAfter, nowhere, Walking, InMessage, passed, failed, finishedBy, sectionStep, entering, sections}
 use Rattle.tiling_sections.specs.Stands.{next}
 use Rattle.tiling_sections.specs.Laid.{Stored, Laid}
 use Rattle.tiling_sections.proofs.Laws as Laws
@@ -60,7 +60,7 @@ noted five = (omega arith, λ e. omega arith)
 noted six = (omega arith, λ e. omega arith)
 noted seven = (omega arith, λ e. omega arith)
 
-start-by : (place : ℕ → ℕ) {n : ℕ} → Noted n → startOf (startsBy place) n ≡ place n
+start-by : (place : ℕ → ℕ) {n : ℕ} → Noted n → sectionStart (startsBy place) n ≡ place n
 start-by place one = refl
 start-by place three = refl
 start-by place four = refl
@@ -102,7 +102,7 @@ module _ (file : List ℕ) (p e : ℕ) (room : e + 4 ≤ length file) where
   record Kept (w : Walking) : Type 0 where
     inside : w .place ≤ e
     opened : w .starts .zero .0 + 16 ≤ length file
-    lies : {n : ℕ} → Noted n → n ≤ w .after → Lies file (startOf (w .starts) n)
+    lies : {n : ℕ} → Noted n → n ≤ w .after → Lies file (sectionStart (w .starts) n)
     stored : Stored file (w .bitmap)
     fields : Every (Laid file) (w .fields)
 
@@ -132,9 +132,9 @@ module _ (file : List ℕ) (p e : ℕ) (room : e + 4 ≤ length file) where
       opened : after .zero .0 + 16 ≤ length file
       opened = rw (ne-eqb n 0 (none-is-0 (follows-so (w .after) n allowed))) (k .opened)
 
-      lies : {m : ℕ} → Noted m → m ≤ n → Lies file (startOf after m)
+      lies : {m : ℕ} → Noted m → m ≤ n → Lies file (sectionStart after m)
       lies {m} s h =
-          rw (start-by (λ i. cond (eqb n i) (w .place) (startOf (w .starts) i)) s)
+          rw (start-by (λ i. cond (eqb n i) (w .place) (sectionStart (w .starts) i)) s)
           (split (eqb n m) (λ i. rw i own) (λ i. rw i (k .lies s (before (follows-so (w .after) n allowed) s (omega (arith, eqb-false n m i))))))
 
       stored : Stored file (finishedBy file w n q .bitmap)

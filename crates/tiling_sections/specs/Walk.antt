@@ -56,8 +56,8 @@ unfoldable pub bitmapAfter : List ℕ → Bitmap → ℕ → ℕ → ℕ → Bit
 bitmapAfter file bitmap n p q = cond (eqb n 3) Bitmap.Absent (cond (eqb n 6) (bitmapBehind file bitmap p q) bitmap)
 
 -- The place where section n starts, among those of a field; and the starts that a place for each section makes.
-abbrev pub startOf : Starts → ℕ → ℕ
-startOf s n =
+abbrev pub sectionStart : Starts → ℕ → ℕ
+sectionStart s n =
     cond (eqb n 0) (s .zero .0)
     (cond (eqb n 1) (s .one .0)
     (cond (eqb n 3) (s .three .0)
@@ -71,14 +71,11 @@ startsBy place = record { zero = at (place 0); one = at (place 1); three = at (p
 
 -- The starts in force behind a section numbered n that starts at p: its own is p, and the others are as before.
 unfoldable pub startsAfter : Starts → ℕ → ℕ → Starts
-startsAfter s n p = startsBy (λ i. cond (eqb n i) p (startOf s i))
+startsAfter s n p = startsBy (λ i. cond (eqb n i) p (sectionStart s i))
 
 -- Where nothing lies yet.
-abbrev pub noStarts : Starts
-noStarts = startsBy (λ _. 0)
-
 abbrev pub nowhere : Located
-nowhere = record { starts = noStarts; bitmap = Bitmap.Absent }
+nowhere = record { starts = startsBy (λ _. 0); bitmap = Bitmap.Absent }
 
 -- The walk over the sections, as a machine: where it has come to, the number of the section before that, the starts and the bitmap in force,
 -- and the fields that are finished, in order.
@@ -122,7 +119,7 @@ walkFrom file e = run (sectionStep file e) (passed (e + 4) []) (λ w. e - w .pla
 
 -- The message at p, whose sections stand behind the 16 octets of its section 0 and end at e.
 abbrev pub entering : ℕ → Walking
-entering p = record { place = p + 16; after = 0; starts = startsAfter noStarts 0 p; bitmap = Bitmap.Absent; fields = [] }
+entering p = record { place = p + 16; after = 0; starts = startsAfter (nowhere .starts) 0 p; bitmap = Bitmap.Absent; fields = [] }
 
 abbrev pub sections : List ℕ → ℕ → ℕ → InMessage
 sections file p e = walkFrom file e (entering p)

@@ -185,7 +185,7 @@ pub fn fields_in(file: &[u8], message: FilePlace, end: FilePlace, k: usize) -> W
     let mut bitmap = Bitmap::Absent;
     let mut at = FilePlace(message.0 + 16);
     let mut after: u8 = 0;
-    let mut fields: usize = 0;
+    let mut count: usize = 0;
     loop {
         match section_at(file, at, end, after) {
             Step::Next { number, next } => {
@@ -197,21 +197,17 @@ pub fn fields_in(file: &[u8], message: FilePlace, end: FilePlace, k: usize) -> W
                     3 => bitmap = Bitmap::Absent,
                     6 => bitmap = bitmap_behind(file, bitmap, here, next),
                     7 => {
-                        if fields == k {
+                        if count == k {
                             hit = Located { starts, bitmap };
                         }
-                        fields += 1;
+                        count += 1;
                     }
                     _ => {}
                 }
             }
             Step::End => {
                 let next = FilePlace(end.0 + 4);
-                return Walked::Fields {
-                    count: fields,
-                    next,
-                    hit,
-                };
+                return Walked::Fields { count, next, hit };
             }
             Step::Bad(why) => {
                 return Walked::Bad(Refusal { why, place: at });

@@ -23,7 +23,7 @@ use denote.Triple.Statement.{Contract, Triple}
 use denote.Triple.Table.{cited}
 use denote.Triple.Walked.{says}
 use Rattle.bits.specs.Bits.{bitsAt}
-use Rattle.bits_reader.specs.Reading.{Found}
+use Rattle.bits_reader.specs.Reading.{NumberFound}
 use Rattle.bits_reader.specs.declared.BitReader.{BitReader}
 use Rattle.bits_reader.specs.declared.Read.{Read}
 use Rattle.bits_reader.specs.declared.Taken.{Taken}
@@ -120,7 +120,7 @@ module _ {M : Type 1} (𝓤 : URA M) (H : Heap 𝓤) (𝓜 : Model 𝓤 H) (𝓖
       land ! (here !) (init ! 7 refl (reader-typed W erased κ made is-made .0)) $
       use2 W (raw (Next .pre (to-next made))) (next-asks made (rw (holds .1) required)) $
       calls-by ! (frames 𝓤 H 𝓜 𝓖 𝓡 code.env) next.ended (next.clauses 𝓤 H (𝓖 .A) (𝓜 .mem) (𝓡 .run)) next-meets
-      (to-next made) (Found made b) (λ read end. id⊢ 𝓤 _) read-laws.lowered (read-tells κ)
+      (to-next made) (NumberFound made b) (λ read end. id⊢ 𝓤 _) read-laws.lowered (read-tells κ)
       (and-then ! (copied ! 6 refl) (and-then ! (copied ! 10 refl) (no-more !))) (λ read said is-read.
       land ! (here !) (init ! 9 refl (read-typed W erased κ read is-read .0)) $ drop ! $
       assigns ! (of-opd ! (load ! (from ! (fld ! refl (stop !))) (look-in ! 8 (sub ! 0 refl (whole !))))) (here !)

@@ -15,11 +15,11 @@ use Rattle.tiling_sections.proofs.fields_in.Statement.{statement}
 use Rattle.tiling_sections.proofs.fields_in.Tie as tie
 
 abbrev Inv-loop : tie.InvT-loop
-Inv-loop file end k hit₀ starts₀ bitmap₀ at₀ after₀ fields₀ hit starts bitmap at after fields =
-    Reached file (starts₀ .zero .0) (end .0) k (record { at = at; after = after; fields = fields; starts = starts; bitmap = bitmap; hit = hit })
+Inv-loop file end k hit₀ starts₀ bitmap₀ at₀ after₀ count₀ hit starts bitmap at after count =
+    Reached file (starts₀ .zero .0) (end .0) k (record { at = at; after = after; fields = count; starts = starts; bitmap = bitmap; hit = hit })
 
 abbrev μ-loop : tie.MeasureT-loop
-μ-loop file end k hit₀ starts₀ bitmap₀ at₀ after₀ fields₀ hit starts bitmap at after fields = end .0 - at .0
+μ-loop file end k hit₀ starts₀ bitmap₀ at₀ after₀ count₀ hit starts bitmap at after count = end .0 - at .0
 
 nowhere-requires : tie.Need-nowhere-requires Inv-loop μ-loop
 nowhere-requires c κs = search needs
@@ -84,8 +84,8 @@ loop-again-2 c =
     rw (c .bitmap-behind .ensures, c .before .before .starts-after2 .ensures, c .before .match2 .keys2)
     (reached-on (c .before .before .before .before .before .before .before .loop .inv) (rw (c .before .match2 .keys2) at (met (c .before .before .before .before))))
 
-add-fields : tie.Need-add-fields Inv-loop μ-loop
-add-fields c = let w = within (c .before .before .before .before) in search needs
+add-count : tie.Need-add-count Inv-loop μ-loop
+add-count c = let w = within (c .before .before .before .before) in search needs
 
 loop-less-3 : tie.Need-loop-less-3 Inv-loop μ-loop
 loop-less-3 c = let w = within (c .before .before .before .before) in omega arith
@@ -149,7 +149,7 @@ fields-in-spec =
     bitmap-behind-requires
     loop-less-2
     loop-again-2
-    add-fields
+    add-count
     loop-less-3
     loop-again-3
     loop-less-4
