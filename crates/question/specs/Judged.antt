@@ -1,6 +1,5 @@
 -- Document 01, "What the reader takes": what the description of a field holds. Each part is what a section in force says, and each section is taken.
 use mathlib.Core.Path.{_≡_}
-use mathlib.Core.Bool.{Bool, true}
 use mathlib.Core.List.{List}
 use Prim.Native.Nat.{ℕ}
 use Rattle.calendar.specs.declared.Time.{Time}
@@ -22,9 +21,11 @@ use Rattle.section_5.specs.Representation.{representationAt}
 use Rattle.section_6.specs.declared.Marked.{Marked}
 use Rattle.section_6.specs.declared.Marked.the-variants as Marked
 use Rattle.section_6.specs.Presence.{presenceAt}
-use Rattle.section_7.specs.Packing.{isPacked}
+use Rattle.section_7.specs.declared.Packed.{Packed}
+use Rattle.section_7.specs.declared.Packed.the-variants as Packed
+use Rattle.section_7.specs.Packing.{dataAt}
 use Rattle.question.specs.declared.Description.{Description}
-use Rattle.question.specs.Fields.{disciplineAt}
+use Rattle.question.specs.Describe.{disciplineAt}
 
 -- What each section in force says of the field that lies at l. The times of section 4 are counted from a reference time, section 6 marks so many points, of
 -- which n are present, and section 7 holds the values of a representation.
@@ -44,8 +45,8 @@ module _ (file : List ℕ) (l : Located) where
   abbrev pub presenceOf : ℕ → ℕ → Marked
   presenceOf points n = presenceAt file (l .starts .six .0) (l .bitmap) points n
 
-  abbrev pub isPackedAs : Representation → Bool
-  isPackedAs r = isPacked file (l .starts .seven .0) r
+  abbrev pub dataOf : Representation → Packed
+  dataOf r = dataAt file (l .starts .seven .0) r
 
 -- The description d of that field.
 pub record Judged (file : List ℕ) (l : Located) (d : Description) : Type 0 where
@@ -55,5 +56,5 @@ pub record Judged (file : List ℕ) (l : Located) (d : Description) : Type 0 whe
   pub ofFour : productOf file l (d .identification .reference) ≡ Defined.As (d .definition)
   pub ofFive : representationOf file l ≡ Represented.By (d .representation)
   pub ofSix : presenceOf file l (pointsOf (d .grid)) (d .representation .n) ≡ Marked.As (d .presence)
-  pub ofSeven : isPackedAs file l (d .representation) ≡ true
+  pub ofSeven : dataOf file l (d .representation) ≡ Packed.As (d .plan)
   pub ofStarts : d .starts ≡ l .starts

@@ -1,4 +1,5 @@
--- What the questions describe and place are answered.
-pub mod Fields
+-- What the question describe is answered, and how what is asked of a field is judged.
+pub mod Describe
+pub mod Judge
 pub mod Judged
 pub mod Numbers

@@ -2,10 +2,11 @@
 -- data template, and a bitmap indicator.
 use Prim.Native.Nat.{ℕ}
 use mathlib.Core.Bool.{cond}
-use mathlib.Core.List.{List, [], _∷_, _++_}
+use mathlib.Core.List.{List, [], _∷_, _++_, map}
 use Rattle.octets.specs.declared.Signed.{Signed}
 use Rattle.calendar.specs.declared.Time.{Time}
 use Rattle.tiling_sections.specs.declared.Starts.{Starts}
+use Rattle.tiling_sections.specs.Walk.{sectionStart}
 use Rattle.section_3_geometry.specs.declared.Grid.{Grid}
 use Rattle.section_3_geometry.specs.declared.Position.{Position}
 use Rattle.section_4.specs.declared.Level.{Level}
@@ -62,7 +63,7 @@ representationNumbers r =
     ++ (r .bits ∷ templateNumber (r .template) ∷ [])
 
 abbrev pub startNumbers : Starts → List ℕ
-startNumbers s = s .one .0 ∷ s .three .0 ∷ s .four .0 ∷ s .five .0 ∷ s .six .0 ∷ s .seven .0 ∷ []
+startNumbers s = map (sectionStart s) (1 ∷ 3 ∷ 4 ∷ 5 ∷ 6 ∷ 7 ∷ [])
 
 -- A whole description, as 56 numbers in the order in which document 01 names them.
 abbrev pub numbersOf : Description → List ℕ

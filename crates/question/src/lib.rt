@@ -1,12 +1,13 @@
-// The questions about one field of a file: describe it, and place one of its points. Neither has a precondition: what cannot be answered is
-// refused.
+// The one place where questions about a field are judged. Each refusal that such a question can meet is tried here, in the order of refusals, and
+// gets its number and its place here. Whoever answers a question asks here first. Nothing has a precondition: what cannot be answered is refused.
 ghost use mathlib.Core.Path.{_≡_};
 ghost use Prim.Native.Nat.{_≤_};
 ghost use Rattle.calendar.specs.Calendar.{Gregorian};
+ghost use Rattle.tiling_sections.specs.Laid.{Laid};
 ghost use Rattle.section_3_geometry.specs.Positions.{pointsOf};
 ghost use Rattle.section_7.specs.Packing.{LimitedBy};
-ghost use Rattle.theorems_grammar.specs.Laid.{Laid};
-ghost use Rattle.question.specs.Fields.{represented, gridded, describedAt, describe, place};
+ghost use Rattle.question.specs.Describe.{represented, gridded, describedAt, describe};
+ghost use Rattle.question.specs.Judge.{Known, hasRoom, isDecodable, valuesAsked, asked, judge};
 use octets::FilePlace;
 use octets::OctetNumber;
 use refusals::Refusal;
@@ -15,19 +16,20 @@ use section_1::Identification;
 use section_1::Identified;
 use section_3::Gridded;
 use section_3_geometry::Grid;
-use section_3_geometry::Position;
 use section_4::Defined;
 use section_4::ProductDefinition;
 use section_5::Representation;
 use section_5::Represented;
 use section_6::Marked;
 use section_6::Presence;
+use section_7::Data;
+use section_7::Packed;
 use tiling::Found;
 use tiling_sections::Located;
 use tiling_sections::Starts;
 
-// All that is said of a field: the discipline from section 0, what sections 1, 3, 4 and 5 in force for it say, which of its points are
-// present, and where these sections start.
+// All that is said of a field: the discipline from section 0, what sections 1, 3, 4 and 5 in force for it say, which of its points are present, what
+// section 7 holds, and where these sections start.
 pub struct Description {
     pub discipline: u8,
     pub identification: Identification,
@@ -35,6 +37,7 @@ pub struct Description {
     pub definition: ProductDefinition,
     pub representation: Representation,
     pub presence: Presence,
+    pub plan: Data,
     pub starts: Starts,
 }
 
@@ -43,13 +46,24 @@ pub enum Described {
     Refused(Refusal),
 }
 
-// Where a point lies.
-pub enum Placed {
-    At(Position),
-    Refused(Refusal),
+// What is asked of a field that is described: one of its points, by its number; or all its values, for which two runs of these lengths are lent from a
+// start index on.
+pub enum Asks {
+    Point(usize),
+    Values {
+        start: usize,
+        values: usize,
+        presence: usize,
+    },
 }
 
-// Sections 6 and 7, behind all others: which points are present, and whether their values are there.
+fn refused(why: Why, place: FilePlace) -> Described
+    ensures { λ r. ⌜ r ≡ Described.Refused (record { why = why; place = place }) ⌝ }
+{
+    Described::Refused(Refusal { why, place })
+}
+
+// Sections 6 and 7, behind all others: 13 and 14.
 fn packed_in(
     file: &[u8],
     located: Located,
@@ -62,33 +76,34 @@ fn packed_in(
     ensures { λ r. ⌜ r ≡ represented (now (file .entry)) located identification grid definition (Represented.By representation) ⌝ }
 {
     let starts = located.starts;
-    let seven = starts.seven;
     let bitmap = located.bitmap;
     let points = section_3_geometry::points_of(grid);
-    match section_6::presence_at(file, starts.six, bitmap, points, representation.n) {
-        Marked::As(presence) => {
-            if !section_7::is_packed(file, seven, representation) {
-                return Described::Refused(Refusal {
-                    why: Why::BadPacking,
-                    place: seven,
-                });
-            }
-            let discipline = section::octet(file, FilePlace(starts.one.0 - 16), OctetNumber(7));
-            Described::As(Description {
-                discipline,
-                identification,
-                grid,
-                definition,
-                representation,
-                presence,
-                starts,
-            })
-        }
-        Marked::Refused(refusal) => Described::Refused(refusal),
-    }
+    let Marked::As(presence) = section_6::presence_at(
+        file,
+        starts.six,
+        bitmap,
+        points,
+        representation.n,
+    ) else {
+        return refused(Why::BadBitmap, starts.six);
+    };
+    let Packed::As(plan) = section_7::data_at(file, starts.seven, representation) else {
+        return refused(Why::BadPacking, starts.seven);
+    };
+    let discipline = section::octet(file, starts.zero, OctetNumber(7));
+    Described::As(Description {
+        discipline,
+        identification,
+        grid,
+        definition,
+        representation,
+        presence,
+        plan,
+        starts,
+    })
 }
 
-// Sections 4 and 5, and those behind them.
+// Sections 4 and 5, and those behind them: 11 and 12.
 fn defined_in(
     file: &[u8],
     located: Located,
@@ -99,35 +114,39 @@ fn defined_in(
     ensures { λ r. ⌜ r ≡ gridded (now (file .entry)) located identification (Gridded.On grid) ⌝ }
 {
     let starts = located.starts;
-    match section_4::product_definition_at(file, starts.four, identification.reference) {
-        Defined::As(definition) => match section_5::representation_at(file, starts.five) {
-            Represented::By(representation) => packed_in(
-                file,
-                located,
-                identification,
-                grid,
-                definition,
-                representation,
-            ),
-            Represented::Refused(refusal) => Described::Refused(refusal),
-        },
-        Defined::Refused(refusal) => Described::Refused(refusal),
-    }
+    let Defined::As(definition) = section_4::product_definition_at(
+        file,
+        starts.four,
+        identification.reference,
+    ) else {
+        return refused(Why::BadProduct, starts.four);
+    };
+    let Represented::By(representation) = section_5::representation_at(file, starts.five) else {
+        return refused(Why::BadRepresentation, starts.five);
+    };
+    packed_in(
+        file,
+        located,
+        identification,
+        grid,
+        definition,
+        representation,
+    )
 }
 
-// The sections of a field that was found, in the order of their refusals.
+// The sections of a field that was found, in the order of their refusals: 9 and 10 come first.
 fn described_at(file: &[u8], located: Located) -> Described
     requires { ⌜ Laid (now file) located ⌝ }
     ensures { λ r. ⌜ r ≡ describedAt (now (file .entry)) located ⌝ }
 {
     let starts = located.starts;
-    match section_1::identification_at(file, starts.one) {
-        Identified::As(identification) => match section_3::grid_at(file, starts.three) {
-            Gridded::On(grid) => defined_in(file, located, identification, grid),
-            Gridded::Refused(refusal) => Described::Refused(refusal),
-        },
-        Identified::Refused(refusal) => Described::Refused(refusal),
-    }
+    let Identified::As(identification) = section_1::identification_at(file, starts.one) else {
+        return refused(Why::BadIdentification, starts.one);
+    };
+    let Gridded::On(grid) = section_3::grid_at(file, starts.three) else {
+        return refused(Why::BadGrid, starts.three);
+    };
+    defined_in(file, located, identification, grid)
 }
 
 // Describes field `k`, counted from 0 over all messages: the whole description, or refusal 1 to 14.
@@ -135,26 +154,101 @@ pub fn describe(file: &[u8], k: usize) -> Described
     ensures { λ r. ⌜ r ≡ describe (now (file .entry)) k ⌝ }
 {
     match tiling::find(file, k) {
-        Found::At(located) => described_at(file, located),
+        Found::Tiled {
+            messages: _,
+            fields,
+            hit,
+        } => {
+            if k < fields {
+                return described_at(file, hit);
+            }
+            refused(Why::NoSuchField, FilePlace(0))
+        }
         Found::Refused(refusal) => Described::Refused(refusal),
     }
 }
 
-// Places point `n` of field `k`: its latitude and longitude, or refusal 1 to 14 or 17.
-pub fn place(file: &[u8], k: usize, n: usize) -> Placed
-    ensures { λ r. ⌜ r ≡ place (now (file .entry)) k n ⌝ }
+// Do so many points fit from `start` on into runs of these lengths?
+fn has_room(start: usize, points: u32, values: usize, presence: usize) -> bool
+    ensures { λ r. ⌜ r ≡ hasRoom start points values presence ⌝ }
 {
-    match describe(file, k) {
-        Described::As(description) => {
+    if values < start {
+        return false;
+    }
+    if presence < start {
+        return false;
+    }
+    if values - start < points as usize {
+        return false;
+    }
+    points as usize <= presence - start
+}
+
+// Is every integer X of the field in its range?
+fn is_decodable(file: &[u8], description: Description) -> bool
+    requires { ⌜ Known (now file) description ⌝ }
+    ensures { λ r. ⌜ r ≡ isDecodable (now (file .entry)) description ⌝ }
+{
+    let plan = description.plan;
+    let starts = description.starts;
+    match plan {
+        Data::Simple => true,
+        Data::Complex(groups) => {
+            values_complex::is_in_range(section::octets_in(file, starts.seven), groups)
+        }
+    }
+}
+
+// All values of a field that is described: 15, and then 16.
+fn values_asked(
+    file: &[u8],
+    description: Description,
+    start: usize,
+    values: usize,
+    presence: usize,
+) -> Described
+    requires { ⌜ Known (now file) description ⌝ }
+    ensures { λ r. ⌜ r ≡ valuesAsked (now (file .entry)) start values presence description ⌝ }
+{
+    let grid = description.grid;
+    let starts = description.starts;
+    if !has_room(start, section_3_geometry::points_of(grid), values, presence) {
+        return refused(Why::NoRoom, FilePlace(0));
+    }
+    if !is_decodable(file, description) {
+        return refused(Why::ValueOutOfRange, starts.seven);
+    }
+    Described::As(description)
+}
+
+// What is asked of a field that is described.
+fn asked(file: &[u8], description: Description, asks: Asks) -> Described
+    requires { ⌜ Known (now file) description ⌝ }
+    ensures { λ r. ⌜ r ≡ asked (now (file .entry)) asks description ⌝ }
+{
+    match asks {
+        Asks::Point(n) => {
             let grid = description.grid;
             if n < section_3_geometry::points_of(grid) as usize {
-                return Placed::At(section_3_geometry::position_of(grid, n as u32));
+                return Described::As(description);
             }
-            Placed::Refused(Refusal {
-                why: Why::NoSuchPoint,
-                place: FilePlace(0),
-            })
+            refused(Why::NoSuchPoint, FilePlace(0))
         }
-        Described::Refused(refusal) => Placed::Refused(refusal),
+        Asks::Values {
+            start,
+            values,
+            presence,
+        } => values_asked(file, description, start, values, presence),
+    }
+}
+
+// Judges what is asked of field `k`: its description, where the question is to be answered, or the refusal. Behind 1 to 14 come 17 for a point, and 15
+// and 16 for values.
+pub fn judge(file: &[u8], k: usize, asks: Asks) -> Described
+    ensures { λ r. ⌜ r ≡ judge (now (file .entry)) k asks ⌝ }
+{
+    match describe(file, k) {
+        Described::As(description) => asked(file, description, asks),
+        Described::Refused(refusal) => Described::Refused(refusal),
     }
 }

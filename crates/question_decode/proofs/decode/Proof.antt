@@ -1,22 +1,26 @@
--- `question_decode::decode` meets its contract: the refusals of describe come first.
+-- `question_decode::decode` meets its contract: the question is judged first, and what is judged is decoded.
 use mathlib.Core.Path.{sym, ap, _∙_}
-use borrow.Author.Needs.{needs}
 use lib.ListN.{length}
+use Rattle.question.proofs.Laws.{judged-values}
+use Rattle.question_decode.specs.declared.Decoded.the-variants as Decoded
 use Rattle.question_decode.specs.Decoding.{outcomeBy, answerOf, valuesAfter, presenceAfter}
+use borrow.Author.Needs.{needs}
 use Rattle.question_decode.proofs.decode.Statement.{statement}
 use Rattle.question_decode.proofs.decode.Tie as tie
 
-describe-requires : tie.Need-describe-requires
-describe-requires c κs = search needs
+judge-requires : tie.Need-judge-requires
+judge-requires c κs = search needs
 
 enum-known-description : tie.Need-enum-known-description
 enum-known-description c = search needs
 
-decode-described-requires : tie.Need-decode-described-requires
-decode-described-requires c κs =
+decode-judged-requires : tie.Need-decode-judged-requires
+decode-judged-requires c κs =
     let told = c .before .before .before in
-    let said = told .before .before in
-    (said .before .before .before .before .args .k, sym (said .describe .ensures) ∙ told .description .given .1)
+    let judge = told .before .before in
+    let a = judge .before .before .before .before .args in
+    let said = judged-values (a .file .now) (a .k) (a .start) (length (a .values .now)) (length (a .presence .now)) (sym (judge .judge .ensures) ∙ told .description .given .1) in
+    (((a .k, said .0), said .2), said .1)
 
 enum-known-refusal : tie.Need-enum-known-refusal
 enum-known-refusal c = search needs
@@ -31,30 +35,27 @@ returns : tie.Need-returns
 returns c =
     let call = c .before .before .before .before in
     let told = call .before .before .before .before in
-    let said = told .before .before in
-    let a = said .before .before .before .before .args in
-    let outcome = ap (outcomeBy (a .file .now) (a .start) (length (a .values .now)) (length (a .presence .now))) (sym (told .description .given .1) ∙ said .describe .ensures) in (
-      call .decode-described .ensures .0 ∙ ap answerOf outcome,
-      (
-        call .decode-described .ensures .1 .0 ∙ ap (valuesAfter (a .start) (a .values .now)) outcome,
-        call .decode-described .ensures .1 .1 ∙ ap (presenceAfter (a .start) (a .presence .now)) outcome,
-      ),
+    let judge = told .before .before in
+    let a = judge .before .before .before .before .args in
+    let outcome = ap (outcomeBy (a .file .now)) (sym (told .description .given .1) ∙ judge .judge .ensures) in (
+      ap Decoded.Points (call .decode-judged .ensures .0) ∙ ap answerOf outcome,
+      (call .decode-judged .ensures .1 .0 ∙ ap (valuesAfter (a .start) (a .values .now)) outcome, call .decode-judged .ensures .1 .1 ∙ ap (presenceAfter (a .start) (a .presence .now)) outcome),
     )
 
 returns-2 : tie.Need-returns-2
 returns-2 c =
-    let said = c .before .before .before in
-    let a = said .before .before .before .before .args in
-    let outcome = ap (outcomeBy (a .file .now) (a .start) (length (a .values .now)) (length (a .presence .now))) (sym (c .before .refusal .given .1) ∙ said .describe .ensures) in
+    let judge = c .before .before .before in
+    let a = judge .before .before .before .before .args in
+    let outcome = ap (outcomeBy (a .file .now)) (sym (c .before .refusal .given .1) ∙ judge .judge .ensures) in
     (ap answerOf outcome, (ap (valuesAfter (a .start) (a .values .now)) outcome, ap (presenceAfter (a .start) (a .presence .now)) outcome))
 
 pub decode-spec : {M : Type 1} → statement M
 decode-spec =
     tie.close
     (tie.spec
-    describe-requires
+    judge-requires
     enum-known-description
-    decode-described-requires
+    decode-judged-requires
     enum-known-refusal
     same-length
     same-length-2

@@ -1,8 +1,8 @@
--- `question_decode::has_room` meets its contract. It makes no sum, so that none can wrap.
+-- `question::has_room` meets its contract. It makes no sum, so that none can wrap.
 use native.Mathlib.Omega.{arith}
-use Rattle.question_decode.proofs.Laws.{no-values, no-presence, room-by-presence}
-use Rattle.question_decode.proofs.has_room.Statement.{statement}
-use Rattle.question_decode.proofs.has_room.Tie as tie
+use Rattle.question.proofs.Known.{no-values, no-presence, room-by-presence}
+use Rattle.question.proofs.has_room.Statement.{statement}
+use Rattle.question.proofs.has_room.Tie as tie
 
 returns : tie.Need-returns
 returns c = let a = c .before .args in no-values (a .start) (a .points) (a .values) (a .presence) (omega arith)

@@ -1,0 +1,2 @@
+-- What is known of an answer of place.
+pub mod Laws

@@ -1,0 +1,2 @@
+-- What the question place is answered.
+pub mod Place
