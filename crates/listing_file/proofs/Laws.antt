@@ -1,4 +1,4 @@
--- The laws of the listing: how long its texts are at most, and which listing an input has.
+-- The laws of the listing: how long its texts are at mostOctets, and which listing an input has.
 use mathlib.Core.Path.{_≡_, ap, _∙_}
 use mathlib.Core.List.{List, _++_}
 use Prim.Native.Nat.{ℕ, zero, suc, _+_, _*_, _≤_, _<_}
@@ -10,15 +10,14 @@ use Rattle.refusals.specs.declared.Why.the-variants as Why
 use Rattle.refusals.specs.Refusals.{refusal}
 use Rattle.tiling.specs.declared.Checked.the-variants as Checked
 use Rattle.tiling.specs.Tiling.{check}
-use Rattle.theorems_grammar.proofs.Accepted.{counts}
-use Rattle.theorems_grammar.proofs.Laid.{room}
+use Rattle.tiling.proofs.Bounds.{check-few}
 use Rattle.question.specs.declared.Described.{Described}
 use Rattle.question.specs.declared.Described.the-variants as Described
-use Rattle.question.specs.Fields.{describe}
+use Rattle.question.specs.Describe.{describe}
 use Rattle.text.specs.Text.{Puts, ascii, decimal}
 use Rattle.text.proofs.Laws.{decimal-short}
 use Rattle.listing_lines.proofs.Laws.{refusal-short, field-short}
-use Rattle.listing_file.specs.Listing.{answerText, lineOf, linesOf, countText, refusedLine, most, listingOf}
+use Rattle.listing_file.specs.Listing.{answerText, lineOf, linesOf, countText, refusedLine, mostOctets, listingOf}
 
 -- What is put at the start of a run lies inside it.
 pub start-inside : (a u : List ℕ) {b : List ℕ} {r : ℕ} → Puts a 0 u b r → r ≤ length b
@@ -42,20 +41,18 @@ lines-short file zero = omega arith
 lines-short file (suc n) = rw (length-append (linesOf file n) (lineOf file n)) (omega (arith, lines-short file n, line-short file n))
 
 -- Each field takes 20 octets at least, so an input that is not too long has few fields.
-pub few-fields : (input : List ℕ) (m n : ℕ) → length input ≤ most → check input ≡ Checked.Counts m n → n ≤ 3276
-few-fields input m n short taken =
-    let tiling = counts input m n .0 taken in
-    omega (arith, room (tiling .1), tiling .2)
+pub few-fields : (input : List ℕ) (m n : ℕ) → length input ≤ mostOctets → check input ≡ Checked.Counts m n → n ≤ 3276
+few-fields input m n short taken = omega (arith, check-few input taken)
 
 -- The three listings: of an input that is too long, of a file that is taken, and of one that is refused.
-pub listing-too-long : (input : List ℕ) → most < length input → listingOf input ≡ refusedLine (refusal Why.InputTooLong most)
+pub listing-too-long : (input : List ℕ) → mostOctets < length input → listingOf input ≡ refusedLine (refusal Why.InputTooLong mostOctets)
 unfolding listingOf
-listing-too-long input long = rw (lt-ltb most (length input) long)
+listing-too-long input long = rw (lt-ltb mostOctets (length input) long)
 
-pub listing-taken : (input : List ℕ) (m n : ℕ) → length input ≤ most → check input ≡ Checked.Counts m n → listingOf input ≡ countText n ++ linesOf input n
+pub listing-taken : (input : List ℕ) (m n : ℕ) → length input ≤ mostOctets → check input ≡ Checked.Counts m n → listingOf input ≡ countText n ++ linesOf input n
 unfolding listingOf
-listing-taken input m n short taken = rw (le-ltb most (length input) short, taken)
+listing-taken input m n short taken = rw (le-ltb mostOctets (length input) short, taken)
 
-pub listing-refused : (input : List ℕ) (r : Refusal) → length input ≤ most → check input ≡ Checked.Refused r → listingOf input ≡ refusedLine r
+pub listing-refused : (input : List ℕ) (r : Refusal) → length input ≤ mostOctets → check input ≡ Checked.Refused r → listingOf input ≡ refusedLine r
 unfolding listingOf
-listing-refused input r short told = rw (le-ltb most (length input) short, told)
+listing-refused input r short told = rw (le-ltb mostOctets (length input) short, told)

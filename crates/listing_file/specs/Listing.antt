@@ -12,13 +12,13 @@ use Rattle.tiling.specs.declared.Checked.the-variants as Checked
 use Rattle.tiling.specs.Tiling.{check}
 use Rattle.question.specs.declared.Described.{Described}
 use Rattle.question.specs.declared.Described.the-variants as Described
-use Rattle.question.specs.Fields.{describe}
+use Rattle.question.specs.Describe.{describe}
 use Rattle.text.specs.Text.{ascii, decimal}
 use Rattle.listing_lines.specs.Lines.{refusalText, fieldText}
 
 -- The most octets that the program takes.
-abbrev pub most : ℕ
-most = 65536
+abbrev pub mostOctets : ℕ
+mostOctets = 65536
 
 abbrev pub answerText : Described → List ℕ
 answerText (Described.As d) = fieldText d
@@ -45,4 +45,4 @@ checkedText file (Checked.Refused r) = refusedLine r
 
 -- An input that is too long is refused before all else.
 unfoldable pub listingOf : List ℕ → List ℕ
-listingOf input = cond (ltb most (length input)) (refusedLine (refusal Why.InputTooLong most)) (checkedText input (check input))
+listingOf input = cond (ltb mostOctets (length input)) (refusedLine (refusal Why.InputTooLong mostOctets)) (checkedText input (check input))

@@ -52,7 +52,7 @@ fn put_refused(run: &mut [u8], refusal: Refusal) -> usize
     text::put(run, told, b"\n")
 }
 
-// Puts the whole listing of an input at the start of the run, and answers how long it is. A file of 65,536 octets has at most 3,276 fields.
+// Puts the whole listing of an input at the start of the run, and answers how long it is. A file of 65,536 octets has at mostOctets 3,276 fields.
 pub fn list(run: &mut [u8], input: &[u8]) -> usize
     requires { ⌜ 655360 ≤ length (now run) ⌝ }
     ensures { λ r. ⌜ Puts (now (run .entry)) 0 (listingOf (now (input .entry))) (now (run .exit)) r ⌝ }

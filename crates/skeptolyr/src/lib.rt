@@ -1,8 +1,7 @@
 // What C calls: numbers and lent slices go in, and one number of 64 bits comes out.
 ghost use mathlib.Core.Path.{_≡_};
-ghost use lib.ListN.{length};
 ghost use Rattle.tiling.specs.Tiling.{check};
-ghost use Rattle.question_decode.specs.Decoding.{outcome, answerOf, valuesAfter, presenceAfter};
+ghost use Rattle.question_decode.specs.Decoding.{answer, valuesLeft, presenceLeft};
 ghost use Rattle.skeptolyr.specs.Codes.{checkCode, decodeCode};
 use question_decode::Decoded;
 use tiling::Checked;
@@ -27,9 +26,9 @@ pub extern "C" fn skeptolyr_decode(
     values: &mut [f64],
     presence: &mut [u8],
 ) -> u64
-    ensures { λ r. ⌜ r ≡ decodeCode (answerOf (outcome (now (file .entry)) k start (length (now (values .entry))) (length (now (presence .entry))))) ⌝ }
-    ensures { λ _. ⌜ now (values .exit) ≡ valuesAfter start (now (values .entry)) (outcome (now (file .entry)) k start (length (now (values .entry))) (length (now (presence .entry)))) ⌝ }
-    ensures { λ _. ⌜ now (presence .exit) ≡ presenceAfter start (now (presence .entry)) (outcome (now (file .entry)) k start (length (now (values .entry))) (length (now (presence .entry)))) ⌝ }
+    ensures { λ r. ⌜ r ≡ decodeCode (answer (now (file .entry)) k start (now (values .entry)) (now (presence .entry))) ⌝ }
+    ensures { λ _. ⌜ now (values .exit) ≡ valuesLeft (now (file .entry)) k start (now (values .entry)) (now (presence .entry)) ⌝ }
+    ensures { λ _. ⌜ now (presence .exit) ≡ presenceLeft (now (file .entry)) k start (now (values .entry)) (now (presence .entry)) ⌝ }
 {
     match question_decode::decode(file, k, start, values, presence) {
         Decoded::Points(points) => points as u64,

@@ -3,20 +3,20 @@
 ghost use mathlib.Core.Path.{_≡_};
 ghost use mathlib.Core.Bool.{cond};
 ghost use Prim.Native.Nat.{_+_, _≤_};
-ghost use lib.Dec.{ltb};
 ghost use lib.ListN.{length};
 ghost use Rattle.text.specs.Text.{Puts};
 ghost use Rattle.section_5.specs.Representation.{templateNumber};
 ghost use Rattle.section_6.specs.Presence.{indicatorOf};
-ghost use Rattle.question.specs.Fields.{describe, place};
+ghost use Rattle.question.specs.Describe.{describe};
 ghost use Rattle.question.specs.Numbers.{timeNumbers, positionNumbers, gridNumbers, levelNumbers, kindNumber, productNumbers, definitionNumbers, representationNumbers, startNumbers, numbersOf};
-ghost use Rattle.tests_tell.specs.Tell.{most, describedCode, describedRun, placedCode, placedRun, noRoom};
+ghost use Rattle.question_place.specs.Place.{place};
+ghost use Rattle.tests_tell.specs.Tell.{mostNumbers, isShort, describedCode, describedLeft, placedCode, placedLeft, noRoom};
 use calendar::Time;
 use octets::FilePlace;
 use octets::Signed;
 use question::Described;
 use question::Description;
-use question::Placed;
+use question_place::Placed;
 use refusals::Refusal;
 use refusals::Why;
 use section_3_geometry::Grid;
@@ -204,7 +204,7 @@ fn put_starts(run: &mut [u64], at: usize, starts: Starts) -> usize
 }
 
 fn put_description(run: &mut [u64], description: Description) -> usize
-    requires { ⌜ most ≤ length (now run) ⌝ }
+    requires { ⌜ mostNumbers ≤ length (now run) ⌝ }
     ensures { λ r. ⌜ Puts (now (run .entry)) 0 (numbersOf description) (now (run .exit)) r ⌝ }
 {
     let identification = description.identification;
@@ -225,8 +225,8 @@ fn put_description(run: &mut [u64], description: Description) -> usize
 // Describes field `k`: 56 numbers, or a refusal's code.
 #[no_mangle]
 pub extern "C" fn tell_describe(file: &[u8], k: usize, run: &mut [u64]) -> u64
-    ensures { λ r. ⌜ r ≡ cond (ltb (length (now (run .entry))) most) noRoom (describedCode (describe (now (file .entry)) k)) ⌝ }
-    ensures { λ _. ⌜ now (run .exit) ≡ cond (ltb (length (now (run .entry))) most) (now (run .entry)) (describedRun (now (run .entry)) (describe (now (file .entry)) k)) ⌝ }
+    ensures { λ r. ⌜ r ≡ cond (isShort (now (run .entry))) noRoom (describedCode (describe (now (file .entry)) k)) ⌝ }
+    ensures { λ _. ⌜ now (run .exit) ≡ describedLeft (now (run .entry)) (describe (now (file .entry)) k) ⌝ }
 {
     if run.len() < 56 {
         return refusals::code_of(Refusal {
@@ -243,8 +243,8 @@ pub extern "C" fn tell_describe(file: &[u8], k: usize, run: &mut [u64]) -> u64
 // Places point `n` of field `k`: the latitude's sign and size and the longitude, or a refusal's code.
 #[no_mangle]
 pub extern "C" fn tell_place(file: &[u8], k: usize, n: usize, run: &mut [u64]) -> u64
-    ensures { λ r. ⌜ r ≡ cond (ltb (length (now (run .entry))) most) noRoom (placedCode (place (now (file .entry)) k n)) ⌝ }
-    ensures { λ _. ⌜ now (run .exit) ≡ cond (ltb (length (now (run .entry))) most) (now (run .entry)) (placedRun (now (run .entry)) (place (now (file .entry)) k n)) ⌝ }
+    ensures { λ r. ⌜ r ≡ cond (isShort (now (run .entry))) noRoom (placedCode (place (now (file .entry)) k n)) ⌝ }
+    ensures { λ _. ⌜ now (run .exit) ≡ placedLeft (now (run .entry)) (place (now (file .entry)) k n) ⌝ }
 {
     if run.len() < 56 {
         return refusals::code_of(Refusal {
@@ -252,7 +252,7 @@ pub extern "C" fn tell_place(file: &[u8], k: usize, n: usize, run: &mut [u64]) -
             place: FilePlace(0),
         });
     }
-    match question::place(file, k, n) {
+    match question_place::place(file, k, n) {
         Placed::At(position) => put(run, 0, &position_numbers(position)) as u64,
         Placed::Refused(refusal) => refusals::code_of(refusal),
     }

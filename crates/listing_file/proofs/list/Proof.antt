@@ -8,7 +8,7 @@ use Rattle.tiling.specs.declared.Checked.the-variants as Checked
 use Rattle.tiling.specs.Tiling.{check}
 use Rattle.text.specs.Text.{ascii, decimal}
 use Rattle.text.proofs.Laws.{decimal-short}
-use Rattle.listing_file.specs.Listing.{countText, linesOf, most}
+use Rattle.listing_file.specs.Listing.{countText, linesOf, mostOctets}
 use Rattle.listing_lines.proofs.Laws.{Told, told-none, told-then, told-room}
 use Rattle.listing_file.proofs.Laws.{lines-short, few-fields, listing-too-long, listing-taken, listing-refused}
 use Rattle.listing_file.proofs.list.Statement.{statement}
@@ -21,7 +21,7 @@ fields c = c .before .before .before .fields .given .0 .1 .0
 abbrev start : tie.After-put-decimal → tie.Start
 start c = c .before .before .before .before .before .before .before .before .before
 
-short : (c : tie.After-put-decimal) → length (start c .args .input .now) ≤ most
+short : (c : tie.After-put-decimal) → length (start c .args .input .now) ≤ mostOctets
 short c = omega arith
 
 taken : (c : tie.After-put-decimal) → check (start c .args .input .now) ≡ Checked.Counts (c .before .before .before .fields .given .0 .0) (fields c)
@@ -85,8 +85,8 @@ returns-2 c =
     let number = put .before .before .before .before .before in
     let input = start number .args .input .now in
     let n = fields number in
-    let most-lines : length (linesOf input n) ≤ 655332 = omega (arith, lines-short input n, few number) in
-    let all = told-then (linesOf input n) 655332 0 (told-count put) most-lines (lines .put-lines .ensures) in
+    let mostOctets-lines : length (linesOf input n) ≤ 655332 = omega (arith, lines-short input n, few number) in
+    let all = told-then (linesOf input n) 655332 0 (told-count put) mostOctets-lines (lines .put-lines .ensures) in
     rw (listing-taken input _ n (short number) (taken number)) (all .put)
 
 same-length-3 : tie.Need-same-length-3

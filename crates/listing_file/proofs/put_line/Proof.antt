@@ -5,7 +5,7 @@ use Prim.Native.Nat.{ℕ}
 use native.Mathlib.Omega.{arith}
 use borrow.Author.Needs.{needs}
 use Rattle.question.specs.declared.Described.the-variants as Described
-use Rattle.question.specs.Fields.{describe}
+use Rattle.question.specs.Describe.{describe}
 use Rattle.text.specs.Text.{ascii, decimal}
 use Rattle.text.proofs.Laws.{decimal-short}
 use Rattle.listing_file.specs.Listing.{answerText, lineOf}

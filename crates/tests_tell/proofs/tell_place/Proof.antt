@@ -3,7 +3,7 @@ use mathlib.Core.Path.{sym, ap, _∙_}
 use native.Mathlib.Omega.{arith}
 use borrow.Author.Tests.{lt-ltb, le-ltb}
 use borrow.Author.Needs.{needs}
-use Rattle.question.proofs.Laws.{place-placed}
+use Rattle.question_place.proofs.Laws.{place-placed}
 use Rattle.tests_tell.specs.Tell.{placedCode, placedRun}
 use Rattle.tests_tell.proofs.tell_place.Statement.{statement}
 use Rattle.tests_tell.proofs.tell_place.Tie as tie
