@@ -2,195 +2,188 @@
 -- a refusal that applies.
 use Prim.Native.Nat.{ℕ, _+_, _≤_, _<_}
 use mathlib.Core.Path.{_≡_, refl, sym, ap, subst, _∙_}
-use mathlib.Core.Bool.{true, false}
+use mathlib.Core.Bool.{false, true}
 use mathlib.Core.List.{List}
 use mathlib.Core.Logic.{_⊎_, inl, inr}
 use native.Mathlib.Omega.{arith}
-use borrow.Author.Tests.{le-ltb, ltb-true, ltb-false, le-leb, leb-true}
-use lib.Dec.{ltb, leb}
+use borrow.Author.Tests.{lt-ltb, le-ltb, ltb-true, ltb-false, le-leb}
+use lib.Dec.{ltb}
 use lib.ListN.{length}
 use lib.Ieee.{Float}
-use Rattle.octets.proofs.Cases.{apart, split, both}
+use Rattle.octets.proofs.Cases.{apart, split}
 use Rattle.refusals.specs.declared.Refusal.{Refusal}
+use Rattle.refusals.specs.declared.Why as declaredWhy
 use Rattle.refusals.specs.declared.Why.the-variants as Why
-use Rattle.refusals.specs.Refusals.{refusal}
+use Rattle.refusals.specs.Refusals.{refusal, numberOf, order, stepOf, stepsBefore, rank}
+use Rattle.refusals.proofs.Laws.{in-order}
 use Rattle.tiling_sections.specs.declared.Located.{Located}
 use Rattle.tiling_sections.specs.declared.Starts.{Starts}
-use Rattle.tiling_sections.specs.declared.Section.the-variants as Section
+use Rattle.tiling_sections.specs.declared.Step.the-variants as Step
 use Rattle.tiling_sections.specs.Stands as Stands
 use Rattle.tiling.specs.declared.Checked.{Checked}
 use Rattle.tiling.specs.declared.Checked.the-variants as Checked
-use Rattle.tiling.specs.declared.Found.{Found}
-use Rattle.tiling.specs.declared.Found.the-variants as Found
 use Rattle.tiling.specs.declared.Header.the-variants as Header
 use Rattle.tiling.specs.Heads as Heads
 use Rattle.tiling.specs.Tiling as Tiling
-use Rattle.tiling.specs.Tiling.{largest, find}
+use Rattle.tiling.specs.Tiling.{largest, InFile, tilingOf}
 use Rattle.theorems_grammar.specs.Refusals as Refusals
-use Rattle.theorems_grammar.specs.Refusals.{Faulty, NotFound}
-use Rattle.theorems_grammar.proofs.Accepted.{places}
-use Rattle.theorems_grammar.proofs.Refusals.{check-refuses, find-refuses}
+use Rattle.theorems_grammar.specs.Refusals.{Faulty}
+use Rattle.theorems_grammar.proofs.Accepted.{tiles-so}
+use Rattle.theorems_grammar.proofs.Refusals.{refuses-so, check-refuses}
 use Rattle.section_1.specs.declared.Identification.{Identification}
 use Rattle.section_1.specs.declared.Identified.the-variants as Identified
 use Rattle.section_1.specs.Identification.{identificationAt}
-use Rattle.section_1.proofs.Laws as identification
 use Rattle.section_3_geometry.specs.declared.Grid.{Grid}
-use Rattle.section_3_geometry.specs.declared.Position.{Position}
 use Rattle.section_3_geometry.specs.Positions.{pointsOf}
 use Rattle.section_3.specs.declared.Gridded.the-variants as Gridded
 use Rattle.section_3.specs.Section3.{gridAt}
-use Rattle.section_3.proofs.Laws as grid
 use Rattle.section_4.specs.declared.ProductDefinition.{ProductDefinition}
 use Rattle.section_4.specs.declared.Defined.the-variants as Defined
 use Rattle.section_4.specs.Product.{productDefinitionAt}
-use Rattle.section_4.proofs.Laws as product
 use Rattle.section_5.specs.declared.Representation.{Representation}
 use Rattle.section_5.specs.declared.Represented.the-variants as Represented
 use Rattle.section_5.specs.Representation.{representationAt}
-use Rattle.section_5.proofs.Laws as representation
 use Rattle.section_6.specs.declared.Presence.{Presence}
 use Rattle.section_6.specs.declared.Marked.the-variants as Marked
 use Rattle.section_6.specs.Presence.{presenceAt}
-use Rattle.section_6.proofs.Laws as presence
-use Rattle.section_7.specs.Packing.{isPacked}
+use Rattle.section_7.specs.declared.Packed.the-variants as Packed
+use Rattle.section_7.specs.Packing.{dataAt}
+use Rattle.doubles.specs.Doubles.{isInRange}
+use Rattle.values_integers.specs.Integers.{integerAt}
+use Rattle.values_integers.proofs.Range.{in-range-one, out-of-range}
 use Rattle.question.specs.declared.Description.{Description}
 use Rattle.question.specs.declared.Described.{Described}
 use Rattle.question.specs.declared.Described.the-variants as Described
-use Rattle.question.specs.declared.Placed as placed
-use Rattle.question.specs.declared.Placed.the-variants as Placed
-use Rattle.question.specs.Fields as Fields
-use Rattle.question.specs.Fields.{marked, packed, defined, gridded, describedAt, located}
+use Rattle.question.specs.declared.Asks.{Asks}
+use Rattle.question.specs.declared.Asks.the-variants as Asks
+use Rattle.question.specs.Describe as Describe
+use Rattle.question.specs.Describe.{refusedAt, packed, marked, represented, defined, gridded, describedAt, fieldIn}
+use Rattle.question.specs.Judge.{integerOf, isDecodable, hasRoom, valuesAsked, pointAsked, askedOf, judge}
 use Rattle.question.specs.Judged.{Judged}
-use Rattle.question.proofs.Laws.{described, described-judged}
+use Rattle.question.proofs.Laws.{described, described-judged, room-fits}
 use Rattle.question.proofs.Chain.{at-section-1, at-section-3, at-section-4, at-section-5, at-section-6, at-section-7}
-use Rattle.doubles.specs.Doubles as Doubles
-use Rattle.values_integers.specs.Integers.{integerAt}
-use Rattle.values_integers.proofs.Range.{in-range-one, out-of-range}
-use Rattle.question_decode.specs.declared.Decoded as decoded
-use Rattle.question_decode.specs.declared.Decoded.the-variants as Decoded
-use Rattle.question_decode.specs.Decoding.{Outcome, gives, refuses, integerOf, isDecodable, hasRoom, outcomeOf, outcomeBy, outcome, answerOf}
+use Rattle.question_place.specs.Place.{placedBy}
+use Rattle.question_decode.specs.Decoding.{Outcome, gives, refuses, outcomeBy, outcome, answerOf}
 use Rattle.theorems_demands.specs.Questions.{Question, Verdict, ofChecked, ofDescribed, ofPlaced, ofDecoded, verdict, check, describe, place, decode, answered, refused}
-use Rattle.theorems_demands.specs.Demand1.{FieldAt, Names, describes, places as placesAt, decodes, About, AsksPoint, asks, Lends, lends, Applies, rank, First, Untouched, Demand1}
+use Rattle.theorems_demands.specs.Demand1.{FieldAt, Names, describes, places, decodes, About, AsksPoint, asks, Lends, lends, Applies, First, Untouched, Demand1}
 use Rattle.theorems_demands.specs.Demand1 as Spec
 
--- A description is refused by s, or by a refusal that comes before s.
+-- A field is refused by s, or by a refusal that comes before s.
 abbrev CaughtIn : Refusal → Described → Type 0
 CaughtIn s a = (r : Refusal) × (a ≡ Described.Refused r) × ((r ≡ s) ⊎ (rank r < rank s))
 
-here : {s f : Refusal} → f ≡ s → CaughtIn s (Described.Refused f)
-here {s} {f} is = (f, refl, inl is)
+here : {s : Refusal} → CaughtIn s (Described.Refused s)
+here {s} = (s, refl, inl refl)
 
-sooner : {s f t : Refusal} → f ≡ t → rank t < rank s → CaughtIn s (Described.Refused f)
-sooner {s} {f} is before = (f, refl, inr (subst (λ (r : Refusal). rank r < rank s) (sym is) before))
+sooner : {s : Refusal} (t : Refusal) → rank t < rank s → CaughtIn s (Described.Refused t)
+sooner t before = (t, refl, inr before)
 
--- Each section in its turn: where it is refused, that comes before s, and where it is taken, s is caught behind it.
+-- Each section in its turn: where it is not taken, that comes before s, and where it is taken, s is caught behind it.
 module _ (file : List ℕ) (l : Located) (s : Refusal) where
   past-1 :
-      9 < rank s →
+      stepsBefore order 9 < rank s →
       ((i : Identification) → identificationAt file (l .starts .one .0) ≡ Identified.As i → CaughtIn s (gridded file l i (gridAt file (l .starts .three .0)))) →
       CaughtIn s (describedAt file l)
-  past-1 before = at-section-1 file l (CaughtIn s) (λ f e. sooner (identification.refused-is file (l .starts .one .0) e) before)
+  past-1 before = at-section-1 file l (CaughtIn s) (λ _. sooner _ before)
 
   module _ (i : Identification) where
     past-3 :
-        10 < rank s →
+        stepsBefore order 10 < rank s →
         ((g : Grid) → gridAt file (l .starts .three .0) ≡ Gridded.On g → CaughtIn s (defined file l i g (productDefinitionAt file (l .starts .four .0) (i .reference)))) →
         CaughtIn s (gridded file l i (gridAt file (l .starts .three .0)))
-    past-3 before = at-section-3 file l (CaughtIn s) i (λ f e. sooner (grid.refused-is file (l .starts .three .0) e) before)
+    past-3 before = at-section-3 file l (CaughtIn s) i (λ _. sooner _ before)
 
     module _ (g : Grid) where
       past-4 :
-          11 < rank s →
-          ((m : ProductDefinition) → productDefinitionAt file (l .starts .four .0) (i .reference) ≡ Defined.As m → CaughtIn s (Fields.represented file l i g m (representationAt file (l .starts .five .0)))) →
+          stepsBefore order 11 < rank s →
+          ((m : ProductDefinition) → productDefinitionAt file (l .starts .four .0) (i .reference) ≡ Defined.As m → CaughtIn s (represented file l i g m (representationAt file (l .starts .five .0)))) →
           CaughtIn s (defined file l i g (productDefinitionAt file (l .starts .four .0) (i .reference)))
-      past-4 before = at-section-4 file l (CaughtIn s) i g (λ f e. sooner (product.refused-is file (l .starts .four .0) (i .reference) e) before)
+      past-4 before = at-section-4 file l (CaughtIn s) i g (λ _. sooner _ before)
 
       module _ (m : ProductDefinition) where
         past-5 :
-            12 < rank s →
+            stepsBefore order 12 < rank s →
             ((r : Representation) → representationAt file (l .starts .five .0) ≡ Represented.By r → CaughtIn s (marked file l i g m r (presenceAt file (l .starts .six .0) (l .bitmap) (pointsOf g) (r .n)))) →
-            CaughtIn s (Fields.represented file l i g m (representationAt file (l .starts .five .0)))
-        past-5 before = at-section-5 file l (CaughtIn s) i g m (λ f e. sooner (representation.refused-is file (l .starts .five .0) e) before)
+            CaughtIn s (represented file l i g m (representationAt file (l .starts .five .0)))
+        past-5 before = at-section-5 file l (CaughtIn s) i g m (λ _. sooner _ before)
 
         module _ (r : Representation) where
           past-6 :
-              13 < rank s →
-              ((p : Presence) → presenceAt file (l .starts .six .0) (l .bitmap) (pointsOf g) (r .n) ≡ Marked.As p → CaughtIn s (packed file l i g m r p)) →
+              stepsBefore order 13 < rank s →
+              ((p : Presence) → presenceAt file (l .starts .six .0) (l .bitmap) (pointsOf g) (r .n) ≡ Marked.As p → CaughtIn s (packed file l i g m r p (dataAt file (l .starts .seven .0) r))) →
               CaughtIn s (marked file l i g m r (presenceAt file (l .starts .six .0) (l .bitmap) (pointsOf g) (r .n)))
-          past-6 before = at-section-6 file l (CaughtIn s) i g m r (λ f e. sooner (presence.refused-is file (l .starts .six .0) (l .bitmap) (pointsOf g) (r .n) e) before)
+          past-6 before = at-section-6 file l (CaughtIn s) i g m r (λ _. sooner _ before)
 
 -- A section that is not taken is caught, whatever else is wrong with the field.
 module _ (file : List ℕ) (l : Located) where
-  caught-1 : {f : Refusal} → identificationAt file (l .starts .one .0) ≡ Identified.Refused f → CaughtIn (refusal Why.BadIdentification (l .starts .one .0)) (describedAt file l)
-  caught-1 {f} fails =
-      at-section-1 file l (CaughtIn _) (λ _ e. here (identification.refused-is file (l .starts .one .0) e))
-      (λ i taken. apart cc)
+  caught-1 : identificationAt file (l .starts .one .0) ≡ Identified.NotTaken → CaughtIn (refusal Why.BadIdentification (l .starts .one .0)) (describedAt file l)
+  caught-1 fails = at-section-1 file l (CaughtIn _) (λ _. here) (λ i taken. apart cc)
 
-  caught-3 : {f : Refusal} → gridAt file (l .starts .three .0) ≡ Gridded.Refused f → CaughtIn (refusal Why.BadGrid (l .starts .three .0)) (describedAt file l)
-  caught-3 {f} fails =
-      past-1 file l _ (omega arith)
-      (λ i _. at-section-3 file l (CaughtIn _) i (λ _ e. here (grid.refused-is file (l .starts .three .0) e))
+  caught-3 : gridAt file (l .starts .three .0) ≡ Gridded.NotTaken → CaughtIn (refusal Why.BadGrid (l .starts .three .0)) (describedAt file l)
+  caught-3 fails =
+      past-1 file l _ (omega (arith, in-order))
+      (λ i _. at-section-3 file l (CaughtIn _) i (λ _. here)
       (λ g taken. apart cc))
 
   caught-4 :
-      {i : Identification} {f : Refusal} →
+      {i : Identification} →
       identificationAt file (l .starts .one .0) ≡ Identified.As i →
-      productDefinitionAt file (l .starts .four .0) (i .reference) ≡ Defined.Refused f →
+      productDefinitionAt file (l .starts .four .0) (i .reference) ≡ Defined.NotTaken →
       CaughtIn (refusal Why.BadProduct (l .starts .four .0)) (describedAt file l)
-  caught-4 {i} {f} of-one fails =
-      past-1 file l _ (omega arith)
-      (λ j same-one. past-3 file l _ j (omega arith)
-      (λ g _. at-section-4 file l (CaughtIn _) j g (λ _ e. here (product.refused-is file (l .starts .four .0) (j .reference) e))
+  caught-4 {i} of-one fails =
+      past-1 file l _ (omega (arith, in-order))
+      (λ j same-one. past-3 file l _ j (omega (arith, in-order))
+      (λ g _. at-section-4 file l (CaughtIn _) j g (λ _. here)
       (λ m taken. let same : i ≡ j = cc in apart cc)))
 
-  caught-5 : {f : Refusal} → representationAt file (l .starts .five .0) ≡ Represented.Refused f → CaughtIn (refusal Why.BadRepresentation (l .starts .five .0)) (describedAt file l)
-  caught-5 {f} fails =
-      past-1 file l _ (omega arith)
-      (λ i _. past-3 file l _ i (omega arith)
-      (λ g _. past-4 file l _ i g (omega arith)
-      (λ m _. at-section-5 file l (CaughtIn _) i g m (λ _ e. here (representation.refused-is file (l .starts .five .0) e))
+  caught-5 : representationAt file (l .starts .five .0) ≡ Represented.NotTaken → CaughtIn (refusal Why.BadRepresentation (l .starts .five .0)) (describedAt file l)
+  caught-5 fails =
+      past-1 file l _ (omega (arith, in-order))
+      (λ i _. past-3 file l _ i (omega (arith, in-order))
+      (λ g _. past-4 file l _ i g (omega (arith, in-order))
+      (λ m _. at-section-5 file l (CaughtIn _) i g m (λ _. here)
       (λ r taken. apart cc))))
 
   caught-6 :
-      {g : Grid} {r : Representation} {f : Refusal} →
+      {g : Grid} {r : Representation} →
       gridAt file (l .starts .three .0) ≡ Gridded.On g →
       representationAt file (l .starts .five .0) ≡ Represented.By r →
-      presenceAt file (l .starts .six .0) (l .bitmap) (pointsOf g) (r .n) ≡ Marked.Refused f →
+      presenceAt file (l .starts .six .0) (l .bitmap) (pointsOf g) (r .n) ≡ Marked.NotTaken →
       CaughtIn (refusal Why.BadBitmap (l .starts .six .0)) (describedAt file l)
-  caught-6 {g} {r} {f} of-three of-five fails =
-      past-1 file l _ (omega arith)
-      (λ i _. past-3 file l _ i (omega arith)
-      (λ h same-three. past-4 file l _ i h (omega arith)
-      (λ m _. past-5 file l _ i h m (omega arith)
-      (λ q same-five. at-section-6 file l (CaughtIn _) i h m q (λ _ e. here (presence.refused-is file (l .starts .six .0) (l .bitmap) (pointsOf h) (q .n) e))
+  caught-6 {g} {r} of-three of-five fails =
+      past-1 file l _ (omega (arith, in-order))
+      (λ i _. past-3 file l _ i (omega (arith, in-order))
+      (λ h same-three. past-4 file l _ i h (omega (arith, in-order))
+      (λ m _. past-5 file l _ i h m (omega (arith, in-order))
+      (λ q same-five. at-section-6 file l (CaughtIn _) i h m q (λ _. here)
       (λ p taken. let same : g ≡ h = cc in let alike : r ≡ q = cc in apart cc)))))
 
   caught-7 :
       {r : Representation} →
       representationAt file (l .starts .five .0) ≡ Represented.By r →
-      isPacked file (l .starts .seven .0) r ≡ false →
+      dataAt file (l .starts .seven .0) r ≡ Packed.NotTaken →
       CaughtIn (refusal Why.BadPacking (l .starts .seven .0)) (describedAt file l)
   caught-7 {r} of-five fails =
-      past-1 file l _ (omega arith)
-      (λ i _. past-3 file l _ i (omega arith)
-      (λ g _. past-4 file l _ i g (omega arith)
-      (λ m _. past-5 file l _ i g m (omega arith)
-      (λ q same-five. past-6 file l _ i g m q (omega arith)
-      (λ p _. at-section-7 file l (CaughtIn _) i g m q p (λ _. here refl)
-      (λ taken. let alike : r ≡ q = cc in apart cc))))))
+      past-1 file l _ (omega (arith, in-order))
+      (λ i _. past-3 file l _ i (omega (arith, in-order))
+      (λ g _. past-4 file l _ i g (omega (arith, in-order))
+      (λ m _. past-5 file l _ i g m (omega (arith, in-order))
+      (λ q same-five. past-6 file l _ i g m q (omega (arith, in-order))
+      (λ p _. at-section-7 file l (CaughtIn _) i g m q p (λ _. here)
+      (λ x taken. let alike : r ≡ q = cc in apart cc))))))
 
   abbrev CaughtOr : Refusal → Described → Type 0
   CaughtOr s a = CaughtIn s a ⊎ ((d : Description) × (a ≡ Described.As d))
 
   -- Behind 14, the field is described, or it is refused by what comes before s.
-  described-or : (s : Refusal) → 14 < rank s → CaughtOr s (describedAt file l)
+  described-or : (s : Refusal) → stepsBefore order 14 < rank s → CaughtOr s (describedAt file l)
   described-or s behind =
-      at-section-1 file l (CaughtOr s) (λ _ e. inl (sooner (identification.refused-is file (l .starts .one .0) e) (omega (arith, behind))))
-      (λ i _. at-section-3 file l (CaughtOr s) i (λ _ e. inl (sooner (grid.refused-is file (l .starts .three .0) e) (omega (arith, behind))))
-      (λ g _. at-section-4 file l (CaughtOr s) i g (λ _ e. inl (sooner (product.refused-is file (l .starts .four .0) (i .reference) e) (omega (arith, behind))))
-      (λ m _. at-section-5 file l (CaughtOr s) i g m (λ _ e. inl (sooner (representation.refused-is file (l .starts .five .0) e) (omega (arith, behind))))
-      (λ r _. at-section-6 file l (CaughtOr s) i g m r (λ _ e. inl (sooner (presence.refused-is file (l .starts .six .0) (l .bitmap) (pointsOf g) (r .n) e) (omega (arith, behind))))
-      (λ p _. at-section-7 file l (CaughtOr s) i g m r p (λ _. inl (sooner {t = refusal Why.BadPacking (l .starts .seven .0)} refl behind)) (λ _. inr (_, refl)))))))
+      at-section-1 file l (CaughtOr s) (λ _. inl (sooner _ (omega (arith, in-order, behind))))
+      (λ i _. at-section-3 file l (CaughtOr s) i (λ _. inl (sooner _ (omega (arith, in-order, behind))))
+      (λ g _. at-section-4 file l (CaughtOr s) i g (λ _. inl (sooner _ (omega (arith, in-order, behind))))
+      (λ m _. at-section-5 file l (CaughtOr s) i g m (λ _. inl (sooner _ (omega (arith, in-order, behind))))
+      (λ r _. at-section-6 file l (CaughtOr s) i g m r (λ _. inl (sooner _ (omega (arith, in-order, behind))))
+      (λ p _. at-section-7 file l (CaughtOr s) i g m r p (λ _. inl (sooner _ behind)) (λ x _. inr (_, refl)))))))
 
 -- An answer is no refusal, and a refusal is one alone.
 clash-verdict : {A : Type 0} {r : Refusal} → answered ≡ refused r → A
@@ -199,80 +192,50 @@ clash-verdict e = apart cc
 one-verdict : {r s : Refusal} → refused r ≡ refused s → r ≡ s
 one-verdict e = cc
 
-pub clash-placed : {A : Type 0} {p : Position} {r : Refusal} → Placed.At p ≡ Placed.Refused r → A
-clash-placed e = apart cc
-
-one-placed : {r s : Refusal} → Placed.Refused r ≡ Placed.Refused s → r ≡ s
-one-placed e = cc
-
-pub clash-decoded : {A : Type 0} {n : ℕ} {r : Refusal} → Decoded.Points n ≡ Decoded.Refused r → A
-clash-decoded e = apart cc
-
-one-decoded : {r s : Refusal} → Decoded.Refused r ≡ Decoded.Refused s → r ≡ s
-one-decoded e = cc
-
-placed-refused : {r : Refusal} (a : placed.Placed) → ofPlaced a ≡ refused r → a ≡ Placed.Refused r
-placed-refused (Placed.At p) e = clash-verdict e
-placed-refused (Placed.Refused f) e = ap Placed.Refused (one-verdict e)
-
-decoded-refused : {r : Refusal} (a : decoded.Decoded) → ofDecoded a ≡ refused r → a ≡ Decoded.Refused r
-decoded-refused (Decoded.Points n) e = clash-verdict e
-decoded-refused (Decoded.Refused f) e = ap Decoded.Refused (one-verdict e)
-
--- Where there is no room, the points do not fit into both runs.
-cramped : (start points values presence : ℕ) → hasRoom start points values presence ≡ false → (start + points ≤ values) × (start + points ≤ presence) → ⊥
-cramped start points values presence none fits =
-    let one = le-leb (start + points) values (fits .0) in
-    let other = le-leb (start + points) presence (fits .1) in
-    let holds : hasRoom start points values presence ≡ true = rw (one, other) in
-    apart cc
-
--- Where there is room, the points fit into both runs.
-pub roomy : (start points values presence : ℕ) → hasRoom start points values presence ≡ true → (start + points ≤ values) × (start + points ≤ presence)
-roomy start points values presence room = let tests = both (leb (start + points) values) (leb (start + points) presence) room in (leb-true _ _ (tests .0), leb-true _ _ (tests .1))
-
 -- A question is refused by s, or by a refusal that comes before s.
 abbrev Caught : List ℕ → Question → Refusal → Type 0
 Caught file q s = (r : Refusal) × (verdict file q ≡ refused r) × ((r ≡ s) ⊎ (rank r < rank s))
 
--- A fault of the tiling has a number from 3 to 7.
-tiling-rank : {file : List ℕ} {p : ℕ} {r : Refusal} → Faulty file p r → rank r ≡ 3
-tiling-rank (Refusals.Faulty.heading heads) = by heads
+-- A fault of the tiling is at the step of the tiling.
+tiling-step : {file : List ℕ} {p : ℕ} {r : Refusal} → Faulty file p r → rank r ≡ stepsBefore order 3
+tiling-step (Refusals.Faulty.heading heads) = by heads
   where
-    by : {file : List ℕ} {p : ℕ} {r : Refusal} → Heads.Heads file p (Header.Bad r) → rank r ≡ 3
+    by : {file : List ℕ} {p : ℕ} {why : declaredWhy.Why} → Heads.Heads file p (Header.Bad why) → stepsBefore order (stepOf (numberOf why)) ≡ stepsBefore order 3
     by (Heads.few h) = refl
     by (Heads.strange h opens) = refl
     by (Heads.short opens h) = refl
     by (Heads.long opens least h) = refl
     by (Heads.endless holds h) = refl
-tiling-rank (Refusals.Faulty.section heads before stands) = by stands
+tiling-step (Refusals.Faulty.section heads before stands) = by stands
   where
-    by : {file : List ℕ} {q e n : ℕ} {r : Refusal} → Stands.Stands file q e n (Section.Bad r) → rank r ≡ 3
+    by : {file : List ℕ} {q e n : ℕ} {why : declaredWhy.Why} → Stands.Stands file q e n (Step.Bad why) → stepsBefore order (stepOf (numberOf why)) ≡ stepsBefore order 3
     by (Stands.unfinished end after) = refl
     by (Stands.misfit inside fits) = refl
     by (Stands.strange fits after) = refl
 
 module _ (file : List ℕ) where
-  pub described-is : {k : ℕ} {l : Located} → FieldAt file k l → Fields.describe file k ≡ describedAt file l
-  described-is {k} {l} at = ap (located file) (places file k l .1 (at .messages, at .fields, at .accepted, at .below, at .lies))
+  pub described-is : {k : ℕ} {l : Located} → FieldAt file k l → Describe.describe file k ≡ describedAt file l
+  described-is {k} at =
+      ap (fieldIn file k) (tiles-so file (at .messages) (at .fields) .1 (at .accepted))
+      ∙ rw (lt-ltb k (length (at .fields)) (at .below)) (ap (describedAt file) (at .lies))
 
   -- A question about field k is refused where describe refuses it.
-  asked : {q : Question} {k : ℕ} {r : Refusal} → Names q k → Fields.describe file k ≡ Described.Refused r → verdict file q ≡ refused r
+  asked : {q : Question} {k : ℕ} {r : Refusal} → Names q k → Describe.describe file k ≡ Described.Refused r → verdict file q ≡ refused r
   asked describes e = rw e
-  asked placesAt e = rw e
+  asked places e = rw e
   asked decodes e = rw e
 
   caught-by : {q : Question} {l : Located} {s : Refusal} → About file q l → CaughtIn s (describedAt file l) → Caught file q s
   caught-by about caught = (caught .0, asked (about .names) (described-is (about .lies) ∙ caught .1), caught .2)
 
-  not-found : {k : ℕ} {r : Refusal} → NotFound file k r → Fields.describe file k ≡ Described.Refused r
-  not-found {k} {r} lost = ap (located file) (find-refuses file k r .1 lost)
-
   file-refused : {r : Refusal} (q : Question) → Refusals.Refused file r → verdict file q ≡ refused r
   file-refused {r} check bad = rw (check-refuses file r .1 bad)
-  file-refused (describe k) bad = asked describes (not-found (Refusals.NotFound.in-file bad))
-  file-refused (place k n) bad = asked placesAt (not-found (Refusals.NotFound.in-file bad))
-  file-refused (decode k start values presence) bad = asked decodes (not-found (Refusals.NotFound.in-file bad))
+  file-refused {r} (describe k) bad = asked describes (ap (fieldIn file k) (refuses-so file r .1 bad))
+  file-refused {r} (place k n) bad = asked places (ap (fieldIn file k) (refuses-so file r .1 bad))
+  file-refused {r} (decode k start values presence) bad = asked decodes (ap (fieldIn file k) (refuses-so file r .1 bad))
+
+  no-field : (k : ℕ) {m : ℕ} (fs : List Located) → tilingOf file ≡ Tiling.tiled m fs → length fs ≤ k → Describe.describe file k ≡ refusedAt Why.NoSuchField 0
+  no-field k fs is few = ap (fieldIn file k) is ∙ rw (le-ltb k (length fs) few)
 
   -- What decode and place answer of a field that is described.
   decoded-as :
@@ -280,24 +243,27 @@ module _ (file : List ℕ) where
       About file q l →
       Lends q start values presence →
       describedAt file l ≡ Described.As d →
-      answerOf (outcomeOf file start values presence d) ≡ Decoded.Refused r →
+      valuesAsked file start values presence d ≡ Described.Refused r →
       verdict file q ≡ refused r
   decoded-as {l = l} {r = r} about (lends {k} {start} {values} {presence}) said e = by (about .names) (about .lies)
     where
       by : {j : ℕ} → Names (decode k start values presence) j → FieldAt file j l → verdict file (decode k start values presence) ≡ refused r
-      by decodes at = rw (described-is at ∙ said, e)
+      by decodes at =
+          ap (λ (a : Described). ofDecoded (answerOf (outcomeBy file (askedOf file (Asks.Values start values presence) a)))) (described-is at ∙ said)
+          ∙ ap (λ (a : Described). ofDecoded (answerOf (outcomeBy file a))) e
 
   placed-as :
       {q : Question} {l : Located} {d : Description} {r : Refusal} {n : ℕ} →
       About file q l →
       AsksPoint q n →
       describedAt file l ≡ Described.As d →
-      Fields.positioned (d .grid) n ≡ Placed.Refused r →
+      pointAsked n d ≡ Described.Refused r →
       verdict file q ≡ refused r
   placed-as {l = l} {r = r} about (asks {k} {n}) said e = by (about .names) (about .lies)
     where
       by : {j : ℕ} → Names (place k n) j → FieldAt file j l → verdict file (place k n) ≡ refused r
-      by placesAt at = rw (described-is at ∙ said, e)
+      by places at =
+          ap (λ (a : Described). ofPlaced (placedBy n (askedOf file (Asks.Point n) a))) (described-is at ∙ said) ∙ ap (λ (a : Described). ofPlaced (placedBy n a)) e
 
   -- 15: there is no room.
   full :
@@ -307,7 +273,7 @@ module _ (file : List ℕ) where
       gridAt file (l .starts .three .0) ≡ Gridded.On g →
       ((start + pointsOf g ≤ values) × (start + pointsOf g ≤ presence) → ⊥) →
       Caught file q (refusal Why.NoRoom 0)
-  full {q} {l} {g} start values presence about lent of-three fits = by (described-or file l (refusal Why.NoRoom 0) (omega arith))
+  full {q} {l} {g} start values presence about lent of-three fits = by (described-or file l (refusal Why.NoRoom 0) (omega (arith, in-order)))
     where
       by : CaughtOr file l (refusal Why.NoRoom 0) (describedAt file l) → Caught file q (refusal Why.NoRoom 0)
       by (inl caught) = caught-by about caught
@@ -315,7 +281,7 @@ module _ (file : List ℕ) where
           let of-grid = described-judged file l d said .ofThree in
           let same : g ≡ d .grid = cc in
           split (hasRoom start (pointsOf (d .grid)) values presence)
-          (λ room. absurd (fits (rw same (roomy start (pointsOf (d .grid)) values presence room))))
+          (λ room. absurd (fits (rw same (room-fits start (pointsOf (d .grid)) values presence room))))
           (λ none. (refusal Why.NoRoom 0, decoded-as about lent said (rw none), inl refl))
 
   -- 16: an integer is out of its range.
@@ -325,9 +291,9 @@ module _ (file : List ℕ) where
       Lends q start values presence →
       representationAt file (l .starts .five .0) ≡ Represented.By r →
       m < r .n →
-      Doubles.isInRange (integerAt file (l .starts .seven .0) r m) ≡ false →
+      isInRange (integerAt file (l .starts .seven .0) r m) ≡ false →
       Caught file q (refusal Why.ValueOutOfRange (l .starts .seven .0))
-  out {q} {l} {r} start values presence m about lent of-five among outside = by (described-or file l (refusal Why.ValueOutOfRange (l .starts .seven .0)) (omega arith))
+  out {q} {l} {r} start values presence m about lent of-five among outside = by (described-or file l (refusal Why.ValueOutOfRange (l .starts .seven .0)) (omega (arith, in-order)))
     where
       by : CaughtOr file l (refusal Why.ValueOutOfRange (l .starts .seven .0)) (describedAt file l) → Caught file q (refusal Why.ValueOutOfRange (l .starts .seven .0))
       by (inl caught) = caught-by about caught
@@ -341,10 +307,10 @@ module _ (file : List ℕ) where
           split (isDecodable file d)
           (λ all.
           let within = in-range-one (integerOf file d) (d .representation .n) {j = m} all (rw (sym same) among) in
-          let outside-too : Doubles.isInRange (integerOf file d m) ≡ false = rw (sym same, sym seven) outside in
+          let outside-too : isInRange (integerOf file d m) ≡ false = rw (sym same, sym seven) outside in
           apart cc)
           (λ fails. (refusal Why.ValueOutOfRange (d .starts .seven .0), decoded-as about lent said (rw (room, fails)), inl (ap (refusal Why.ValueOutOfRange) (sym seven)))))
-          (λ none. (refusal Why.NoRoom 0, decoded-as about lent said (rw none), inr (omega arith)))
+          (λ none. (refusal Why.NoRoom 0, decoded-as about lent said (rw none), inr (omega (arith, in-order))))
 
   -- 17: there is no such point.
   beyond :
@@ -354,7 +320,7 @@ module _ (file : List ℕ) where
       gridAt file (l .starts .three .0) ≡ Gridded.On g →
       pointsOf g ≤ n →
       Caught file q (refusal Why.NoSuchPoint 0)
-  beyond {q} {l} {g} {n} about asked-point of-three few = by (described-or file l (refusal Why.NoSuchPoint 0) (omega arith))
+  beyond {q} {l} {g} {n} about asked-point of-three few = by (described-or file l (refusal Why.NoSuchPoint 0) (omega (arith, in-order)))
     where
       by : CaughtOr file l (refusal Why.NoSuchPoint 0) (describedAt file l) → Caught file q (refusal Why.NoSuchPoint 0)
       by (inl caught) = caught-by about caught
@@ -369,9 +335,10 @@ module _ (file : List ℕ) where
   caught {q} (Spec.empty h) = (_, file-refused q (Refusals.Refused.empty h), inl refl)
   caught {q} {s} (Spec.tiling {p} before inside faulty) =
       split (ltb largest (length file))
-      (λ long. (refusal Why.TooLong 0, file-refused q (Refusals.Refused.too-long (ltb-true _ _ long)), inr (omega (arith, tiling-rank faulty))))
+      (λ long. (refusal Why.TooLong 0, file-refused q (Refusals.Refused.too-long (ltb-true _ _ long)), inr (omega (arith, in-order, tiling-step faulty))))
       (λ short. (s, file-refused q (Refusals.Refused.message (omega arith) (ltb-false _ _ short) before inside faulty), inl refl))
-  caught (Spec.no-such-field names accepted few) = (_, asked names (not-found (Refusals.NotFound.no-such-field accepted few)), inl refl)
+  caught (Spec.no-such-field {k} {m} {fs} names accepted few) =
+      (refusal Why.NoSuchField 0, asked names (no-field k fs (tiles-so file m fs .1 accepted) few), inl refl)
   caught (Spec.section-1 about fails) = caught-by about (caught-1 file _ fails)
   caught (Spec.section-3 about fails) = caught-by about (caught-3 file _ fails)
   caught (Spec.section-4 about of-one fails) = caught-by about (caught-4 file _ of-one fails)
@@ -388,65 +355,79 @@ module _ (file : List ℕ) where
   file-applies (Refusals.Refused.empty h) = Spec.empty h
   file-applies (Refusals.Refused.message some few before inside faulty) = Spec.tiling before inside faulty
 
-  module _ {q : Question} {k : ℕ} (names : Names q k) where
-    module _ {l : Located} (about : About file q l) where
-      abbrev Explained : Described → Type 0
-      Explained a = (r : Refusal) → a ≡ Described.Refused r → Applies file q r
-
-      explain : {f t : Refusal} → f ≡ t → Applies file q t → Explained (Described.Refused f)
-      explain {f} {t} is applies r same = let alike : t ≡ r = cc in subst (Applies file q) alike applies
-
-      explained : Explained (describedAt file l)
-      explained =
-          at-section-1 file l Explained (λ _ e. explain (identification.refused-is file (l .starts .one .0) e) (Spec.section-1 about e))
-          (λ i of-one. at-section-3 file l Explained i (λ _ e. explain (grid.refused-is file (l .starts .three .0) e) (Spec.section-3 about e))
-          (λ g of-three. at-section-4 file l Explained i g (λ _ e. explain (product.refused-is file (l .starts .four .0) (i .reference) e) (Spec.section-4 about of-one e))
-          (λ m _. at-section-5 file l Explained i g m (λ _ e. explain (representation.refused-is file (l .starts .five .0) e) (Spec.section-5 about e))
-          (λ r of-five. at-section-6 file l Explained i g m r (λ _ e. explain (presence.refused-is file (l .starts .six .0) (l .bitmap) (pointsOf g) (r .n) e) (Spec.section-6 about of-three of-five e))
-          (λ p _. at-section-7 file l Explained i g m r p (λ e. explain {t = refusal Why.BadPacking (l .starts .seven .0)} refl (Spec.section-7 about of-five e))
-          (λ _ r same. apart cc))))))
-
-    lost-applies : {r : Refusal} → NotFound file k r → Applies file q r
-    lost-applies (Refusals.NotFound.in-file bad) = file-applies bad
-    lost-applies (Refusals.NotFound.no-such-field accepted few) = Spec.no-such-field names accepted few
-
-    described-applies : {r : Refusal} → Fields.describe file k ≡ Described.Refused r → Applies file q r
-    described-applies {r} = by (find file k) refl
-      where
-        by : (f : Found) → find file k ≡ f → located file f ≡ Described.Refused r → Applies file q r
-        by (Found.At l) said e = let at = places file k l .0 said in explained (record { k = k; names = names; lies = record { messages = at .0; fields = at .1; accepted = at .2; below = at .3; lies = at .4 } }) r e
-        by (Found.Refused f) said e = let same : f ≡ r = cc in lost-applies (find-refuses file k r .0 (rw (sym same) said))
-
   -- Where a field is described, it lies somewhere, and its sections are taken.
-  pub described-at : (k : ℕ) {d : Description} → Fields.describe file k ≡ Described.As d → (l : Located) × FieldAt file k l × Judged file l d
+  pub described-at : (k : ℕ) {d : Description} → Describe.describe file k ≡ Described.As d → (l : Located) × FieldAt file k l × Judged file l d
   described-at k said =
       let known = described file k said in
-      let at = places file k (known .0) .0 (known .1) in
-      (known .0, record { messages = at .0; fields = at .1; accepted = at .2; below = at .3; lies = at .4 }, known .2)
+      let at = known .1 in
+      (known .0, record { messages = at .messages; fields = at .fields; accepted = tiles-so file (at .messages) (at .fields) .0 (at .tiles); below = at .below; lies = at .lies }, known .2)
 
-  point-applies : (k n : ℕ) {r : Refusal} (d : Description) → Fields.describe file k ≡ Described.As d → Fields.positioned (d .grid) n ≡ Placed.Refused r → Applies file (place k n) r
-  point-applies k n {r} d said e =
+  abbrev Explained : Question → Described → Type 0
+  Explained q a = (r : Refusal) → a ≡ Described.Refused r → Applies file q r
+
+  explain : {q : Question} {t : Refusal} → Applies file q t → Explained q (Described.Refused t)
+  explain {q} {t} applies r same = let alike : t ≡ r = cc in subst (Applies file q) alike applies
+
+  module _ {q : Question} {k : ℕ} (names : Names q k) where
+    explained : {l : Located} → About file q l → Explained q (describedAt file l)
+    explained {l} about =
+        at-section-1 file l (Explained q) (λ e. explain (Spec.section-1 about e))
+        (λ i of-one. at-section-3 file l (Explained q) i (λ e. explain (Spec.section-3 about e))
+        (λ g of-three. at-section-4 file l (Explained q) i g (λ e. explain (Spec.section-4 about of-one e))
+        (λ m _. at-section-5 file l (Explained q) i g m (λ e. explain (Spec.section-5 about e))
+        (λ r of-five. at-section-6 file l (Explained q) i g m r (λ e. explain (Spec.section-6 about of-three of-five e))
+        (λ p _. at-section-7 file l (Explained q) i g m r p (λ e. explain (Spec.section-7 about of-five e))
+        (λ _ _ r same. apart cc))))))
+
+    described-applies : Explained q (Describe.describe file k)
+    described-applies = by (tilingOf file) refl
+      where
+        by : (o : InFile) → tilingOf file ≡ o → Explained q (fieldIn file k o)
+        by (Tiling.tiled m fs) is =
+            let accepted = tiles-so file m fs .0 is in
+            split (ltb k (length fs))
+            (λ i. rw i (explained (record { k = k; names = names; lies = record { messages = m; fields = fs; accepted = accepted; below = ltb-true k (length fs) i; lies = refl } })))
+            (λ i. rw i (explain (Spec.no-such-field names accepted (ltb-false k (length fs) i))))
+        by (Tiling.refused f) is = explain (file-applies (refuses-so file f .0 is))
+
+    -- The same, where the field is described and what else is asked is refused.
+    judged-applies : (wanted : Asks) → ((d : Description) → Describe.describe file k ≡ Described.As d → Explained q (askedOf file wanted (Described.As d))) → Explained q (judge file k wanted)
+    judged-applies wanted behind = by (Describe.describe file k) refl
+      where
+        by : (a : Described) → Describe.describe file k ≡ a → Explained q (askedOf file wanted a)
+        by (Described.As d) said = behind d said
+        by (Described.Refused f) said = λ r same. described-applies r (said ∙ same)
+
+  point-applies : (k n : ℕ) (d : Description) → Describe.describe file k ≡ Described.As d → Explained (place k n) (pointAsked n d)
+  point-applies k n d said =
       let at = described-at k said in
       split (ltb n (pointsOf (d .grid)))
-      (λ there. clash-placed (rw there at e))
-      (λ behind. let same : refusal Why.NoSuchPoint 0 ≡ r = one-placed (rw behind at e) in subst (Applies file (place k n)) same (Spec.no-such-point (record { k = k; names = placesAt; lies = at .1 }) asks (at .2 .ofThree) (ltb-false n _ behind)))
+      (λ there. rw there (λ r same. apart cc))
+      (λ behind. rw behind (explain (Spec.no-such-point (record { k = k; names = places; lies = at .1 }) asks (at .2 .ofThree) (ltb-false n _ behind))))
 
-  stretch-applies : (k start values presence : ℕ) {r : Refusal} (d : Description) → Fields.describe file k ≡ Described.As d → answerOf (outcomeOf file start values presence d) ≡ Decoded.Refused r → Applies file (decode k start values presence) r
-  stretch-applies k start values presence {r} d said e =
+  stretch-applies : (k start values presence : ℕ) (d : Description) → Describe.describe file k ≡ Described.As d → Explained (decode k start values presence) (valuesAsked file start values presence d)
+  stretch-applies k start values presence d said =
       let at = described-at k said in
       split (hasRoom start (pointsOf (d .grid)) values presence)
       (λ room.
       split (isDecodable file d)
-      (λ all. clash-decoded (rw (room, all) at e))
+      (λ all. rw (room, all) (λ r same. apart cc))
       (λ fails.
-      let same : refusal Why.ValueOutOfRange (d .starts .seven .0) ≡ r = one-decoded (rw (room, fails) at e) in
       let outside = out-of-range (integerOf file d) (d .representation .n) fails in
       let starts : d .starts .seven .0 ≡ at .0 .starts .seven .0 = ap (λ (s : Starts). s .seven .0) (at .2 .ofStarts) in
-      subst (Applies file (decode k start values presence)) same
-      (rw starts (Spec.out-of-range (record { k = k; names = decodes; lies = at .1 }) lends (at .2 .ofFive) (outside .1) (rw (sym starts) (outside .2))))))
+      rw (room, fails)
+      (explain
+      (rw starts (Spec.out-of-range (record { k = k; names = decodes; lies = at .1 }) lends (at .2 .ofFive) (outside .1) (rw (sym starts) (outside .2)))))))
       (λ none.
-      let same : refusal Why.NoRoom 0 ≡ r = one-decoded (rw none at e) in
-      subst (Applies file (decode k start values presence)) same (Spec.no-room (record { k = k; names = decodes; lies = at .1 }) lends (at .2 .ofThree) (cramped start (pointsOf (d .grid)) values presence none)))
+      rw none
+      (explain (Spec.no-room (record { k = k; names = decodes; lies = at .1 }) lends (at .2 .ofThree) (cramped none))))
+    where
+      cramped : hasRoom start (pointsOf (d .grid)) values presence ≡ false → (start + pointsOf (d .grid) ≤ values) × (start + pointsOf (d .grid) ≤ presence) → ⊥
+      cramped none fits =
+          let one = le-leb (start + pointsOf (d .grid)) values (fits .0) in
+          let other = le-leb (start + pointsOf (d .grid)) presence (fits .1) in
+          let holds : hasRoom start (pointsOf (d .grid)) values presence ≡ true = rw (one, other) in
+          apart cc
 
   applies-of : {r : Refusal} (q : Question) → verdict file q ≡ refused r → Applies file q r
   applies-of {r} check e = by (Tiling.check file) refl e
@@ -454,41 +435,41 @@ module _ (file : List ℕ) where
       by : (a : Checked) → Tiling.check file ≡ a → ofChecked a ≡ refused r → Applies file check r
       by (Checked.Counts m n) said e = clash-verdict e
       by (Checked.Refused f) said e = let same : f ≡ r = one-verdict e in subst (Applies file check) same (file-applies (check-refuses file f .0 said))
-  applies-of {r} (describe k) e = by (Fields.describe file k) refl e
+  applies-of {r} (describe k) e = by (Describe.describe file k) refl e
     where
-      by : (a : Described) → Fields.describe file k ≡ a → ofDescribed a ≡ refused r → Applies file (describe k) r
+      by : (a : Described) → Describe.describe file k ≡ a → ofDescribed a ≡ refused r → Applies file (describe k) r
       by (Described.As d) said e = clash-verdict e
-      by (Described.Refused f) said e = let same : f ≡ r = one-verdict e in described-applies describes (said ∙ ap Described.Refused same)
-  applies-of {r} (place k n) e = by (Fields.describe file k) refl e
+      by (Described.Refused f) said e = let same : f ≡ r = one-verdict e in described-applies describes r (said ∙ ap Described.Refused same)
+  applies-of {r} (place k n) e = by (judge file k (Asks.Point n)) refl e
     where
-      by : (a : Described) → Fields.describe file k ≡ a → ofPlaced (Fields.placedIn n a) ≡ refused r → Applies file (place k n) r
-      by (Described.As d) said e = point-applies k n d said (placed-refused (Fields.positioned (d .grid) n) e)
-      by (Described.Refused f) said e = let same : f ≡ r = one-verdict e in described-applies placesAt (said ∙ ap Described.Refused same)
-  applies-of {r} (decode k start values presence) e = by (Fields.describe file k) refl e
+      by : (a : Described) → judge file k (Asks.Point n) ≡ a → ofPlaced (placedBy n a) ≡ refused r → Applies file (place k n) r
+      by (Described.As d) said e = clash-verdict e
+      by (Described.Refused f) said e = let same : f ≡ r = one-verdict e in judged-applies places (Asks.Point n) (point-applies k n) r (said ∙ ap Described.Refused same)
+  applies-of {r} (decode k start values presence) e = by (judge file k (Asks.Values start values presence)) refl e
     where
-      by : (a : Described) → Fields.describe file k ≡ a → ofDecoded (answerOf (outcomeBy file start values presence a)) ≡ refused r → Applies file (decode k start values presence) r
-      by (Described.As d) said e = stretch-applies k start values presence d said (decoded-refused (answerOf (outcomeOf file start values presence d)) e)
-      by (Described.Refused f) said e = let same : f ≡ r = one-verdict e in described-applies decodes (said ∙ ap Described.Refused same)
+      by : (a : Described) → judge file k (Asks.Values start values presence) ≡ a → ofDecoded (answerOf (outcomeBy file a)) ≡ refused r → Applies file (decode k start values presence) r
+      by (Described.As d) said e = clash-verdict e
+      by (Described.Refused f) said e = let same : f ≡ r = one-verdict e in judged-applies decodes (Asks.Values start values presence) (stretch-applies k start values presence) r (said ∙ ap Described.Refused same)
 
 pub demand-1 : (file : List ℕ) → Demand1 file
 demand-1 file =
     record {
-      refuses = λ q r. (λ e. record { applies = applies-of file q e; lowest = λ s applies. lowest q e (caught file applies) }, first-refuses q r);
+      refuses = λ q r. (λ e. record { applies = applies-of file q e; foremost = λ s applies. foremost q e (caught file applies) }, first-refuses q r);
       answers = λ q. (λ e r applies. none-applies q e (caught file applies), unless q);
       one = λ q r s first second. let given = first-refuses q r first in let given′ = first-refuses q s second in one-verdict (sym given ∙ given′);
       untouched = λ k start values presence r e. kept start values presence (outcome file k start (length values) (length presence)) e;
     }
   where
-    lowest : (q : Question) {r s : Refusal} → verdict file q ≡ refused r → Caught file q s → rank r ≤ rank s
-    lowest q {r} {s} e (f, given, inl is) = let same : r ≡ s = one-verdict (sym e ∙ given) ∙ is in rw same (omega arith)
-    lowest q {r} {s} e (f, given, inr before) = let same : r ≡ f = one-verdict (sym e ∙ given) in rw same (omega (arith, before))
+    foremost : (q : Question) {r s : Refusal} → verdict file q ≡ refused r → Caught file q s → rank r ≤ rank s
+    foremost q {r} {s} e (f, given, inl is) = let same : r ≡ s = one-verdict (sym e ∙ given) ∙ is in rw same (omega arith)
+    foremost q {r} {s} e (f, given, inr before) = let same : r ≡ f = one-verdict (sym e ∙ given) in rw same (omega (arith, before))
 
     first-refuses : (q : Question) (r : Refusal) → First file q r → verdict file q ≡ refused r
     first-refuses q r first = by (caught file (first .applies))
       where
         by : Caught file q r → verdict file q ≡ refused r
         by (f, given, inl is) = rw is at given
-        by (f, given, inr before) = absurd (omega (arith, before, first .lowest f (applies-of file q given)))
+        by (f, given, inr before) = absurd (omega (arith, before, first .foremost f (applies-of file q given)))
 
     none-applies : (q : Question) {s : Refusal} → verdict file q ≡ answered → Caught file q s → ⊥
     none-applies q e (f, given, o) = clash-verdict (sym e ∙ given)

@@ -1,16 +1,15 @@
 -- The proof of demand 2: what check, describe and place answer, and what decode writes, is what the standard defines.
-use mathlib.Core.Path.{_≡_, refl, sym, ap, _∙_}
+use mathlib.Core.Path.{_≡_, refl, ap, _∙_}
 use mathlib.Core.Bool.{true}
 use mathlib.Core.List.{List}
 use Prim.Native.Nat.{ℕ, _+_, _≤_, _<_}
 use native.Mathlib.Numerals.{add-one}
 use native.Mathlib.Omega.{arith}
-use borrow.Author.Tests.{leb-true, lt-ltb, ltb-true}
-use lib.Dec.{ltb}
+use borrow.Author.Tests.{leb-true, lt-ltb}
 use lib.IntN.{ℤ, pos, negsuc, natAbs}
 use lib.ListN.{length}
 use lib.Ieee.{nan}
-use Rattle.octets.proofs.Cases.{apart, split}
+use Rattle.octets.proofs.Cases.{apart}
 use Rattle.laws_rows.specs.Rows.{row, laid}
 use Rattle.laws_rows.proofs.Laws.{laid-within, laid-before, laid-behind}
 use Rattle.doubles.specs.Doubles.{isInRange, packingOf, valueOf}
@@ -28,15 +27,18 @@ use Rattle.values_integers.proofs.Range.{in-range-one}
 use Rattle.question.specs.declared.Description.{Description}
 use Rattle.question.specs.declared.Described.{Described}
 use Rattle.question.specs.declared.Described.the-variants as Described
-use Rattle.question.specs.declared.Placed.the-variants as Placed
-use Rattle.question.specs.Fields.{placedIn, describe, place}
-use Rattle.question.proofs.Laws.{judged-described}
+use Rattle.question.specs.declared.Asks.the-variants as Asks
+use Rattle.question.specs.Describe.{describe}
+use Rattle.question.specs.Judge.{Known, integerOf, isDecodable, hasRoom, judge}
+use Rattle.question.proofs.Laws.{judged-described, judged-point, judged-values, room-fits}
+use Rattle.question.proofs.Known.{packed-present}
+use Rattle.question_place.specs.declared.Placed.the-variants as Placed
+use Rattle.question_place.specs.Place.{placedBy, place}
 use Rattle.question_decode.specs.declared.Decoded.the-variants as Decoded
 use Rattle.question_decode.specs.Decoding as Decoding
-use Rattle.question_decode.specs.Decoding.{packingBy, integerOf, isDecodable, presentOf, rankOf, doubleOf, hasRoom, Known, Outcome, outcome, outcomeBy, answerOf, valuesAfter, presenceAfter}
-use Rattle.question_decode.proofs.Laws.{packed-present}
+use Rattle.question_decode.specs.Decoding.{packingBy, presentOf, rankOf, doubleOf, Outcome, outcome, outcomeBy, answerOf, valuesAfter, presenceAfter}
 use Rattle.theorems_demands.specs.Demand2.{Present, Point, Call, answerTo, Decodes, Demand2}
-use Rattle.theorems_demands.proofs.Demand1.{described-is, described-at, roomy, clash-decoded, clash-placed}
+use Rattle.theorems_demands.proofs.Demand1.{described-is, described-at}
 
 -- An answer is one alone.
 one-count : {a b : ℕ} → Decoded.Points a ≡ Decoded.Points b → a ≡ b
@@ -67,7 +69,7 @@ module _ (file : List ℕ) (d : Description) (known : Known file d) (all : isDec
   present-met i h mark =
       let rank : ℕ = rankOf file d i in
       let among : rank < d .representation .n =
-      omega (arith, packed-present file d known, ranked-more i, rank-mono (presentOf file d) (rankOf file d) ranked-more {i = i + 1} (pointsOf (d .grid)) (omega arith)) in
+      omega (arith, packed-present file d known, ranked-more i, rank-mono (record { mark = presentOf file d; rank = rankOf file d }) ranked-more {i = i + 1} (pointsOf (d .grid)) (omega arith)) in
       let size = own-size (integerOf file d rank) (in-range-one (integerOf file d) (d .representation .n) {j = rank} all among) in
       record {
         x = natAbs (integerOf file d rank);
@@ -102,7 +104,7 @@ module _ (file : List ℕ) (c : Call) where
     given = rw (said, room, all)
 
     fit : (c .start + points ≤ length (c .values)) × (c .start + points ≤ length (c .presence))
-    fit = roomy (c .start) points (length (c .values)) (length (c .presence)) room
+    fit = room-fits (c .start) points (length (c .values)) (length (c .presence)) room
 
     value-is : valuesAfter (c .start) (c .values) here ≡ laid (c .values) (c .start) (row (doubleOf file d) points)
     value-is = ap (valuesAfter (c .start) (c .values)) given
@@ -125,25 +127,21 @@ module _ (file : List ℕ) (c : Call) where
 
   -- A call that answers with a count has decoded the field.
   pub decoded : (n : ℕ) → answerTo file c ≡ Decoded.Points n → (d : Description) × Decodes file c d × (pointsOf (d .grid) ≡ n)
-  decoded n = by (describe file (c .k)) refl
+  decoded n = by (judge file (c .k) (Asks.Values (c .start) (length (c .values)) (length (c .presence)))) refl
     where
-      by : (a : Described) → describe file (c .k) ≡ a → answerOf (outcomeBy file (c .start) (length (c .values)) (length (c .presence)) a) ≡ Decoded.Points n → (d : Description) × Decodes file c d × (pointsOf (d .grid) ≡ n)
+      by : (a : Described) → judge file (c .k) (Asks.Values (c .start) (length (c .values)) (length (c .presence))) ≡ a → answerOf (outcomeBy file a) ≡ Decoded.Points n → (d : Description) × Decodes file c d × (pointsOf (d .grid) ≡ n)
       by (Described.As d) said e =
-          split (hasRoom (c .start) (pointsOf (d .grid)) (length (c .values)) (length (c .presence)))
-          (λ room.
-          split (isDecodable file d)
-          (λ all. (d, decodes-met d said room all, one-count (rw (room, all) at e)))
-          (λ fails. clash-decoded (sym (rw (room, fails) at e))))
-          (λ none. clash-decoded (sym (rw none at e)))
-      by (Described.Refused r) said e = clash-decoded (sym e)
+          let known = judged-values file (c .k) (c .start) (length (c .values)) (length (c .presence)) said in
+          (d, decodes-met d (known .0) (known .1) (known .2), one-count e)
+      by (Described.Refused r) said e = apart cc
 
 -- Where a point lies.
 placed-is : (file : List ℕ) (k n : ℕ) (p : Position) → place file k n ≡ Placed.At p → (d : Description) × (describe file k ≡ Described.As d) × (n < pointsOf (d .grid)) × (positionOf (d .grid) n ≡ p)
-placed-is file k n p = by (describe file k) refl
+placed-is file k n p = by (judge file k (Asks.Point n)) refl
   where
-    by : (a : Described) → describe file k ≡ a → placedIn n a ≡ Placed.At p → (d : Description) × (describe file k ≡ Described.As d) × (n < pointsOf (d .grid)) × (positionOf (d .grid) n ≡ p)
-    by (Described.As d) said e = split (ltb n (pointsOf (d .grid))) (λ there. (d, said, ltb-true n _ there, one-position (rw there at e))) (λ behind. clash-placed (sym (rw behind at e)))
-    by (Described.Refused r) said e = clash-placed (sym e)
+    by : (a : Described) → judge file k (Asks.Point n) ≡ a → placedBy n a ≡ Placed.At p → (d : Description) × (describe file k ≡ Described.As d) × (n < pointsOf (d .grid)) × (positionOf (d .grid) n ≡ p)
+    by (Described.As d) said e = let known = judged-point file k n said in (d, known .0, known .1, one-position e)
+    by (Described.Refused r) said e = apart cc
 
 pub demand-2 : (file : List ℕ) → Demand2 file
 demand-2 file =

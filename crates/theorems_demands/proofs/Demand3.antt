@@ -9,12 +9,13 @@ use Rattle.theorems_bound.specs.Bound.{Meets, InLimits}
 use Rattle.theorems_bound.proofs.Meets.{rebuilt-meets}
 use Rattle.question.specs.declared.Description.{Description}
 use Rattle.question.specs.declared.Described.the-variants as Described
-use Rattle.question.specs.Fields.{describe}
+use Rattle.question.specs.Describe.{describe}
+use Rattle.question.specs.Judge.{integerOf}
 use Rattle.question.proofs.Laws.{one-description}
-use Rattle.question_decode.specs.Decoding.{integerOf, rankOf}
-use Rattle.question_decode.proofs.Laws.{rebuildable}
+use Rattle.question_decode.specs.Decoding.{rankOf}
+use Rattle.question.proofs.Known.{scaled}
 use Rattle.theorems_demands.specs.Demand2.{Present, Call, valueAt, Decodes}
-use Rattle.theorems_demands.specs.Demand3.{Rebuilt, Demand3}
+use Rattle.theorems_demands.specs.Demand3.{RebuiltNear, Demand3}
 use Rattle.theorems_demands.proofs.Demand2.{decoded}
 
 -- A whole number is one alone.
@@ -22,9 +23,9 @@ pub one-integer : {m n : ℕ} → pos m ≡ pos n → m ≡ n
 one-integer e = cc
 
 module _ (file : List ℕ) (c : Call) (d : Description) (said : describe file (c .k) ≡ Described.As d) (i x : ℕ) (standard : integerOf file d (rankOf file d i) ≡ pos x) where
-  rebuilt : Present file d i (valueAt file c (c .start + i)) → Rebuilt file c d i x
+  rebuilt : Present file d i (valueAt file c (c .start + i)) → RebuiltNear file c d i x
   rebuilt p =
-      let limits = rebuildable file d (c .k, said) in
+      let limits = scaled file d (c .k, said) in
       let same : p .x ≡ x = one-integer (sym (p .standard) ∙ standard) in
       let within : InLimits (d .representation .r) (d .representation .e) (d .representation .d) x =
       record { scaled = limits; packed = rw same at (p .inRange) } in

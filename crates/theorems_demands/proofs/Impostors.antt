@@ -23,9 +23,9 @@ use Rattle.section_3.specs.Section3.{gridAt}
 use Rattle.section_4.specs.Product.{productDefinitionAt}
 use Rattle.section_5.specs.Representation.{representationAt}
 use Rattle.section_6.specs.Presence.{onesBefore, presentBefore, presenceAt}
-use Rattle.section_7.specs.Packing.{isPacked}
+use Rattle.section_7.specs.Packing.{dataAt}
 use Rattle.values_integers.specs.Integers.{areInRange}
-use Rattle.question.specs.Fields.{describedAt}
+use Rattle.question.specs.Describe.{describedAt}
 use Rattle.question_decode.specs.Decoding.{outcome, gives}
 use Rattle.question_decode.specs.declared.Decoded.the-variants as Decoded
 use Rattle.theorems_demands.specs.Impostors.{Left, Decoder, MeetsDecode, NoImpostor}
@@ -50,11 +50,11 @@ abbrev secondField : List Float
 secondField = ofBits binary64 0x3fe0_0000_0000_0000 ∷ missing ∷ ofBits binary64 0x3fe6_6666_6666_6666 ∷ missing ∷ []
 
 first-decoded : outcome twoFields 0 0 4 4 ≡ gives 4 firstField (1 ∷ 0 ∷ 1 ∷ 0 ∷ [])
-unfolding twoFields numberAt run runFor sectionAt startsAfter bitmapAfter headerAt message identificationAt gridAt productDefinitionAt representationAt presenceAt onesBefore presentBefore isPacked areInRange describedAt row bitAt bitsAt isLeap monthLength tomorrow daysAfter sumOf scaledBy add mul div ofInt ofBits
+unfolding twoFields numberAt run runFor sectionAt startsAfter bitmapAfter headerAt message identificationAt gridAt productDefinitionAt representationAt presenceAt onesBefore presentBefore dataAt areInRange describedAt row bitAt bitsAt isLeap monthLength tomorrow daysAfter sumOf scaledBy add mul div ofInt ofBits
 first-decoded = refl
 
 second-decoded : outcome twoFields 1 0 4 4 ≡ gives 4 secondField (1 ∷ 0 ∷ 1 ∷ 0 ∷ [])
-unfolding twoFields numberAt run runFor sectionAt startsAfter bitmapAfter headerAt message identificationAt gridAt productDefinitionAt representationAt presenceAt onesBefore presentBefore isPacked areInRange describedAt row bitAt bitsAt isLeap monthLength tomorrow daysAfter sumOf scaledBy add mul div ofInt ofBits
+unfolding twoFields numberAt run runFor sectionAt startsAfter bitmapAfter headerAt message identificationAt gridAt productDefinitionAt representationAt presenceAt onesBefore presentBefore dataAt areInRange describedAt row bitAt bitsAt isLeap monthLength tomorrow daysAfter sumOf scaledBy add mul div ofInt ofBits
 second-decoded = refl
 
 -- They differ from one another, and from runs of zeros, in their first value.

@@ -2,15 +2,14 @@
 -- call alters nothing that was lent. (That every call ends, and stays inside what it was lent, is proved of each function by the checker itself.)
 use Prim.Native.Nat.{ℕ, _+_, _≤_, _<_}
 use mathlib.Core.Path.{_≡_}
-use mathlib.Core.Bool.{false, cond, _&&_}
+use mathlib.Core.Bool.{false}
 use mathlib.Core.List.{List}
 use mathlib.Core.Logic.{_↔_}
-use lib.Dec.{leb}
 use lib.ListN.{length, getD}
 use lib.Ieee.{Float}
 use Rattle.refusals.specs.declared.Refusal.{Refusal}
 use Rattle.refusals.specs.declared.Why.the-variants as Why
-use Rattle.refusals.specs.Refusals.{refusal, numberOf}
+use Rattle.refusals.specs.Refusals.{refusal, rank}
 use Rattle.tiling_sections.specs.declared.Located.{Located}
 use Rattle.tiling_sections.specs.Walk.{nowhere}
 use Rattle.tiling.specs.Tiling.{largest}
@@ -25,9 +24,10 @@ use Rattle.section_4.specs.declared.Defined.the-variants as Defined
 use Rattle.section_5.specs.declared.Representation.{Representation}
 use Rattle.section_5.specs.declared.Represented.the-variants as Represented
 use Rattle.section_6.specs.declared.Marked.the-variants as Marked
+use Rattle.section_7.specs.declared.Packed.the-variants as Packed
 use Rattle.doubles.specs.Doubles as Doubles
 use Rattle.values_integers.specs.Integers.{integerAt}
-use Rattle.question.specs.Judged.{identificationOf, gridOf, productOf, representationOf, presenceOf, isPackedAs}
+use Rattle.question.specs.Judged.{identificationOf, gridOf, productOf, representationOf, presenceOf, dataOf}
 use Rattle.question_decode.specs.Decoding.{Outcome, outcome, valuesAfter, presenceAfter}
 use Rattle.theorems_demands.specs.Questions.{Question, verdict, describe, place, decode, answered, refused}
 
@@ -69,31 +69,31 @@ pub data Applies (file : List ℕ) (q : Question) : Refusal → Type 0 where
   -- 8: the file is accepted, and has no field k.
   no-such-field : {k m : ℕ} {fs : List Located} → Names q k → Accepted file m fs → length fs ≤ k → Applies file q (refusal Why.NoSuchField 0)
   -- 9 and 10: section 1 or 3 in force for the field is not taken.
-  section-1 : {l : Located} {f : Refusal} → About file q l → identificationOf file l ≡ Identified.Refused f → Applies file q (refusal Why.BadIdentification (l .starts .one .0))
-  section-3 : {l : Located} {f : Refusal} → About file q l → gridOf file l ≡ Gridded.Refused f → Applies file q (refusal Why.BadGrid (l .starts .three .0))
+  section-1 : {l : Located} → About file q l → identificationOf file l ≡ Identified.NotTaken → Applies file q (refusal Why.BadIdentification (l .starts .one .0))
+  section-3 : {l : Located} → About file q l → gridOf file l ≡ Gridded.NotTaken → Applies file q (refusal Why.BadGrid (l .starts .three .0))
   -- 11: section 4 is not taken, with the reference time of section 1.
   section-4 :
-      {l : Located} {i : Identification} {f : Refusal} →
+      {l : Located} {i : Identification} →
       About file q l →
       identificationOf file l ≡ Identified.As i →
-      productOf file l (i .reference) ≡ Defined.Refused f →
+      productOf file l (i .reference) ≡ Defined.NotTaken →
       Applies file q (refusal Why.BadProduct (l .starts .four .0))
   -- 12: section 5 is not taken.
-  section-5 : {l : Located} {f : Refusal} → About file q l → representationOf file l ≡ Represented.Refused f → Applies file q (refusal Why.BadRepresentation (l .starts .five .0))
+  section-5 : {l : Located} → About file q l → representationOf file l ≡ Represented.NotTaken → Applies file q (refusal Why.BadRepresentation (l .starts .five .0))
   -- 13: section 6 is not taken, with the points of section 3 and the N of section 5.
   section-6 :
-      {l : Located} {g : Grid} {r : Representation} {f : Refusal} →
+      {l : Located} {g : Grid} {r : Representation} →
       About file q l →
       gridOf file l ≡ Gridded.On g →
       representationOf file l ≡ Represented.By r →
-      presenceOf file l (pointsOf g) (r .n) ≡ Marked.Refused f →
+      presenceOf file l (pointsOf g) (r .n) ≡ Marked.NotTaken →
       Applies file q (refusal Why.BadBitmap (l .starts .six .0))
   -- 14: the group plan or the length of section 7 is not as section 5 says.
   section-7 :
       {l : Located} {r : Representation} →
       About file q l →
       representationOf file l ≡ Represented.By r →
-      isPackedAs file l r ≡ false →
+      dataOf file l r ≡ Packed.NotTaken →
       Applies file q (refusal Why.BadPacking (l .starts .seven .0))
   -- 15: the points do not fit into both runs from the start index on.
   no-room :
@@ -121,17 +121,10 @@ pub data Applies (file : List ℕ) (q : Question) : Refusal → Type 0 where
       pointsOf g ≤ n →
       Applies file q (refusal Why.NoSuchPoint 0)
 
--- The order: the lowest number that applies is given, but 3 to 7 share a rank, since the file's own order decides among them.
-abbrev ranked : ℕ → ℕ
-ranked number = cond (leb 3 number && leb number 7) 3 number
-
-abbrev pub rank : Refusal → ℕ
-rank r = ranked (numberOf (r .why))
-
--- The refusal that document 01 gives: it applies, and none of those that apply comes before it.
+-- The refusal that is given: it applies, and none of those that apply comes before it in the order of refusals.
 pub record First (file : List ℕ) (q : Question) (r : Refusal) : Type 0 where
   pub applies : Applies file q r
-  pub lowest : (s : Refusal) → Applies file q s → rank r ≤ rank s
+  pub foremost : (s : Refusal) → Applies file q s → rank r ≤ rank s
 
 -- Decode leaves both runs as they were.
 abbrev pub Untouched : ℕ → List Float → List ℕ → Outcome → Type 0

@@ -17,12 +17,14 @@ use Rattle.section_3_geometry.specs.Positions.{pointsOf, positionOf}
 use Rattle.doubles.specs.Doubles.{valueOf}
 use Rattle.question.specs.declared.Description.{Description}
 use Rattle.question.specs.declared.Described.the-variants as Described
-use Rattle.question.specs.declared.Placed.the-variants as Placed
-use Rattle.question.specs.Fields.{describe, place}
+use Rattle.question.specs.Describe.{describe}
+use Rattle.question.specs.Judge.{integerOf}
 use Rattle.question.specs.Judged.{Judged}
+use Rattle.question_place.specs.declared.Placed.the-variants as Placed
+use Rattle.question_place.specs.Place.{place}
 use Rattle.question_decode.specs.declared.Decoded as declared
 use Rattle.question_decode.specs.declared.Decoded.the-variants as Decoded
-use Rattle.question_decode.specs.Decoding.{Outcome, integerOf, presentOf, rankOf, outcome, answerOf, valuesAfter, presenceAfter}
+use Rattle.question_decode.specs.Decoding.{presentOf, rankOf, answer, valuesLeft, presenceLeft}
 use Rattle.theorems_demands.specs.Demand1.{FieldAt}
 
 -- A point that is present: as many points are present before it as integers are packed before its own, which is the standard's X, in its range; and the
@@ -49,17 +51,14 @@ pub record Call : Type 0 where
 
 module _ (file : List ℕ) (c : Call) where
   -- Its answer, and what stands at a place of each run afterwards, by the contract of decode.
-  abbrev outcomeOf : Outcome
-  outcomeOf = outcome file (c .k) (c .start) (length (c .values)) (length (c .presence))
-
   abbrev pub answerTo : declared.Decoded
-  answerTo = answerOf outcomeOf
+  answerTo = answer file (c .k) (c .start) (c .values) (c .presence)
 
   abbrev pub valueAt : ℕ → Float
-  valueAt i = getD (valuesAfter (c .start) (c .values) outcomeOf) i nan
+  valueAt i = getD (valuesLeft file (c .k) (c .start) (c .values) (c .presence)) i nan
 
   abbrev pub markAt : ℕ → ℕ
-  markAt i = getD (presenceAfter (c .start) (c .presence) outcomeOf) i 0
+  markAt i = getD (presenceLeft file (c .k) (c .start) (c .values) (c .presence)) i 0
 
   -- It decodes the field that d describes: both runs hold its points from the start index on, and all else is as it was.
   pub record Decodes (d : Description) : Type 0 where

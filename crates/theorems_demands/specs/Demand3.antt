@@ -7,14 +7,15 @@ use lib.IntN.{pos}
 use Rattle.theorems_bound.specs.Bound.{exactS, Meets, InLimits}
 use Rattle.question.specs.declared.Description.{Description}
 use Rattle.question.specs.declared.Described.the-variants as Described
-use Rattle.question.specs.Fields.{describe}
+use Rattle.question.specs.Describe.{describe}
+use Rattle.question.specs.Judge.{integerOf}
 use Rattle.question_decode.specs.declared.Decoded.the-variants as Decoded
-use Rattle.question_decode.specs.Decoding.{integerOf, rankOf}
+use Rattle.question_decode.specs.Decoding.{rankOf}
 use Rattle.theorems_demands.specs.Demand2.{Call, answerTo, valueAt, markAt}
 
 -- The double of a point that is present, with R, E and D as section 5 holds them and X by demand 2: they are in their limits, and the double is finite,
 -- near, and zero where the fraction is.
-pub record Rebuilt (file : List ℕ) (c : Call) (d : Description) (i x : ℕ) : Type 0 where
+pub record RebuiltNear (file : List ℕ) (c : Call) (d : Description) (i x : ℕ) : Type 0 where
   pub limits : InLimits (d .representation .r) (d .representation .e) (d .representation .d) x
   pub meets : Meets (d .representation .d .negative) (d .representation .d .size) (exactS (d .representation .r) (d .representation .e) x) (valueAt file c (c .start + i))
 
@@ -28,4 +29,4 @@ pub record Demand3 (file : List ℕ) : Type 0 where
       i < n →
       markAt file c (c .start + i) ≡ 1 →
       integerOf file d (rankOf file d i) ≡ pos x →
-      Rebuilt file c d i x
+      RebuiltNear file c d i x

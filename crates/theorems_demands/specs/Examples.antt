@@ -43,15 +43,15 @@ oneGroup = record { groups = 1; widths = record { reference = 2; bits = 0 }; len
 abbrev inOneGroup : Representation
 inOneGroup = record { n = 4; r = 0; e = plain 0; d = plain 0; bits = 0; template = Template.Complex oneGroup }
 
-abbrev integerOf : ℕ → ℤ
-integerOf m = integerAt section7 0 inOneGroup m
+abbrev exampleInteger : ℕ → ℤ
+exampleInteger m = integerAt section7 0 inOneGroup m
 
 -- A section 6 of seven octets: its length and number, the indicator 0, and a bitmap.
 abbrev section6 : List ℕ
 section6 = 0 ∷ 0 ∷ 0 ∷ 7 ∷ 6 ∷ 0 ∷ 0xa0 ∷ []
 
-abbrev presentOf : ℕ → ℕ
-presentOf i = presentAt section6 (Presence.Own (at 0)) 4 i
+abbrev examplePresent : ℕ → ℕ
+examplePresent i = presentAt section6 (Presence.Own (at 0)) 4 i
 
 -- 2017-05, at a full hour.
 abbrev may : ℕ → ℕ → Time
@@ -69,7 +69,7 @@ pub record Examples : Type 0 where
   pub firstTwelveBits : bitsAt (0x12 ∷ 0x3a ∷ 0xbc ∷ []) 0 12 ≡ 291
   pub nextTwelveBits : bitsAt (0x12 ∷ 0x3a ∷ 0xbc ∷ []) 12 12 ≡ 2748
   -- Second differences: the integers of the section above.
-  pub secondDifferences : integerOf 0 ∷ integerOf 1 ∷ integerOf 2 ∷ integerOf 3 ∷ [] ≡ pos 5 ∷ pos 7 ∷ pos 11 ∷ pos 15 ∷ []
+  pub secondDifferences : exampleInteger 0 ∷ exampleInteger 1 ∷ exampleInteger 2 ∷ exampleInteger 3 ∷ [] ≡ pos 5 ∷ pos 7 ∷ pos 11 ∷ pos 15 ∷ []
   -- R 1.5, E 1, D 0 and X 3 make 7.5. The single 1.5 is 3FC00000, and the double 7.5 is 401E000000000000.
   pub sevenAndAHalf : valueOf 0x3fc0_0000 (plain 1) (plain 0) 3 ≡ ofBits binary64 0x401e_0000_0000_0000
   -- R 0, E 0, D 1 and X 1 make the double nearest to a tenth.
@@ -77,6 +77,6 @@ pub record Examples : Type 0 where
   -- 84 hours after noon of 15 May 2017 the 19th begins.
   pub afterEightyFourHours : plus (may 15 12) 84 Unit.Hour ≡ Later.At (may 19 0)
   -- Of four points, the bitmap 0xA0 has the first and the third.
-  pub firstAndThird : presentOf 0 ∷ presentOf 1 ∷ presentOf 2 ∷ presentOf 3 ∷ [] ≡ 1 ∷ 0 ∷ 1 ∷ 0 ∷ []
+  pub firstAndThird : examplePresent 0 ∷ examplePresent 1 ∷ examplePresent 2 ∷ examplePresent 3 ∷ [] ≡ 1 ∷ 0 ∷ 1 ∷ 0 ∷ []
   -- On every grid that starts at 116.969697 degrees and goes on by 0.030303, column 1421 lies at 160.030260.
   pub column1421 : (g : Grid) → g .first .longitude ≡ 116969697 → g .di ≡ 30303 → longitudeOf g 1421 ≡ 160030260

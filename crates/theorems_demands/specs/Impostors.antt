@@ -3,7 +3,6 @@
 use Prim.Native.Nat.{ℕ}
 use mathlib.Core.Path.{_≡_}
 use mathlib.Core.List.{List}
-use lib.ListN.{length}
 use lib.Ieee.{Float}
 use Rattle.refusals.specs.declared.Refusal.{Refusal}
 use Rattle.tiling.specs.declared.Checked as declaredChecked
@@ -11,7 +10,7 @@ use Rattle.tiling.specs.declared.Checked.the-variants as Checked
 use Rattle.tiling.specs.Tiling.{check}
 use Rattle.question_decode.specs.declared.Decoded as declaredDecoded
 use Rattle.question_decode.specs.declared.Decoded.the-variants as Decoded
-use Rattle.question_decode.specs.Decoding.{outcome, answerOf, valuesAfter, presenceAfter}
+use Rattle.question_decode.specs.Decoding.{answer, valuesLeft, presenceLeft}
 
 -- A checker, and that it meets the contract of check.
 abbrev pub Checker : Type 0
@@ -33,9 +32,9 @@ Decoder = List ℕ → ℕ → ℕ → List Float → List ℕ → Left
 abbrev pub leftBy : Decoder
 leftBy file k start values presence =
     record {
-      answer = answerOf (outcome file k start (length values) (length presence));
-      values = valuesAfter start values (outcome file k start (length values) (length presence));
-      presence = presenceAfter start presence (outcome file k start (length values) (length presence));
+      answer = answer file k start values presence;
+      values = valuesLeft file k start values presence;
+      presence = presenceLeft file k start values presence;
     }
 
 abbrev pub MeetsDecode : Decoder → Type 0

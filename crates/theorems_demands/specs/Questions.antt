@@ -8,9 +8,10 @@ use Rattle.tiling.specs.declared.Checked.the-variants as Checked
 use Rattle.tiling.specs.Tiling as Tiling
 use Rattle.question.specs.declared.Described.{Described}
 use Rattle.question.specs.declared.Described.the-variants as Described
-use Rattle.question.specs.declared.Placed.{Placed}
-use Rattle.question.specs.declared.Placed.the-variants as Placed
-use Rattle.question.specs.Fields as Fields
+use Rattle.question.specs.Describe as Describe
+use Rattle.question_place.specs.declared.Placed.{Placed}
+use Rattle.question_place.specs.declared.Placed.the-variants as Placed
+use Rattle.question_place.specs.Place as Place
 use Rattle.question_decode.specs.declared.Decoded.{Decoded}
 use Rattle.question_decode.specs.declared.Decoded.the-variants as Decoded
 use Rattle.question_decode.specs.Decoding.{outcome, answerOf}
@@ -45,6 +46,6 @@ ofDecoded (Decoded.Refused r) = refused r
 
 abbrev pub verdict : List ℕ → Question → Verdict
 verdict file check = ofChecked (Tiling.check file)
-verdict file (describe k) = ofDescribed (Fields.describe file k)
-verdict file (place k n) = ofPlaced (Fields.place file k n)
+verdict file (describe k) = ofDescribed (Describe.describe file k)
+verdict file (place k n) = ofPlaced (Place.place file k n)
 verdict file (decode k start values presence) = ofDecoded (answerOf (outcome file k start values presence))

@@ -2,18 +2,18 @@
 use mathlib.Core.Path.{refl}
 use Rattle.theorems_outcomes.specs.Determined.{Determined}
 use Rattle.theorems_outcomes.proofs.Facts.{alike, one}
-use Rattle.tiling_sections.proofs as walk
+use Rattle.tiling_sections.proofs as tiling-sections
 use Rattle.tiling.proofs as tiling
 
 -- The sections of one message.
-pub walk-section-at : Determined walk.section_at.ended (λ _. walk.section_at.clauses)
-walk-section-at _ 𝓤 _ _ _ _ _ _ _ _ _ _ _ _ = one 𝓤 (λ p q. (alike p q, refl))
+pub tiling-sections-section-at : Determined tiling-sections.section_at.ended (λ _. tiling-sections.section_at.clauses)
+tiling-sections-section-at _ 𝓤 _ _ _ _ _ _ _ _ _ _ _ _ = one 𝓤 (λ p q. (alike p q, refl))
 
-pub walk-nowhere : Determined walk.nowhere.ended (λ _. walk.nowhere.clauses)
-walk-nowhere _ 𝓤 _ _ _ _ _ _ _ _ _ _ _ _ = one 𝓤 (λ p q. (alike p q, refl))
+pub tiling-sections-nowhere : Determined tiling-sections.nowhere.ended (λ _. tiling-sections.nowhere.clauses)
+tiling-sections-nowhere _ 𝓤 _ _ _ _ _ _ _ _ _ _ _ _ = one 𝓤 (λ p q. (alike p q, refl))
 
-pub walk-fields-in : Determined walk.fields_in.ended (λ _. walk.fields_in.clauses)
-walk-fields-in _ 𝓤 _ _ _ _ _ _ _ _ _ _ _ _ = one 𝓤 (λ p q. (alike p q, refl))
+pub tiling-sections-fields-in : Determined tiling-sections.fields_in.ended (λ _. tiling-sections.fields_in.clauses)
+tiling-sections-fields-in _ 𝓤 _ _ _ _ _ _ _ _ _ _ _ _ = one 𝓤 (λ p q. (alike p q, refl))
 
 -- The messages of a file.
 pub tiling-header-at : Determined tiling.header_at.ended (λ _. tiling.header_at.clauses)
@@ -26,4 +26,4 @@ pub tiling-check : Determined tiling.check.ended (λ _. tiling.check.clauses)
 tiling-check _ 𝓤 _ _ _ _ _ _ _ _ _ _ _ _ = one 𝓤 (λ p q. (alike p q, refl))
 
 pub tiling-find : Determined tiling.find.ended (λ _. tiling.find.clauses)
-tiling-find _ 𝓤 _ _ _ _ _ _ _ _ _ _ _ _ = one 𝓤 (λ p q. (alike p q, refl))
+tiling-find _ 𝓤 _ _ _ _ _ _ _ _ _ _ _ _ = one 𝓤 (λ p q. (alike (p .0) (q .0), refl))

@@ -4,9 +4,9 @@ use denote.Ref.{now}
 use Rattle.theorems_outcomes.specs.Determined.{Determined, SeenDetermined}
 use Rattle.theorems_outcomes.proofs.Facts.{alike, one}
 use Rattle.octets.proofs as octets
-use Rattle.section.proofs as sections
+use Rattle.section.proofs as section
 use Rattle.bits.proofs as bits
-use Rattle.bits_reader.proofs as reader
+use Rattle.bits_reader.proofs as bits-reader
 use Rattle.refusals.proofs as refusals
 use Rattle.calendar.proofs as calendar
 use Rattle.text.proofs as text
@@ -29,20 +29,20 @@ pub octets-sign-and-size : Determined octets.sign_and_size.ended (λ _. octets.s
 octets-sign-and-size _ 𝓤 _ _ _ _ _ _ _ _ _ _ _ _ = one 𝓤 (λ p q. (alike p q, refl))
 
 -- Of the octets of a section, handed back as a part of the file, it is the octets that are seen.
-pub sections-octet : Determined sections.octet.ended (λ _. sections.octet.clauses)
-sections-octet _ 𝓤 _ _ _ _ _ _ _ _ _ _ _ _ = one 𝓤 (λ p q. (alike (p .0) (q .0), refl))
+pub section-octet : Determined section.octet.ended (λ _. section.octet.clauses)
+section-octet _ 𝓤 _ _ _ _ _ _ _ _ _ _ _ _ = one 𝓤 (λ p q. (alike (p .0) (q .0), refl))
 
-pub sections-held : Determined sections.held.ended (λ _. sections.held.clauses)
-sections-held _ 𝓤 _ _ _ _ _ _ _ _ _ _ _ _ = one 𝓤 (λ p q. (alike (p .0) (q .0), refl))
+pub section-held : Determined section.held.ended (λ _. section.held.clauses)
+section-held _ 𝓤 _ _ _ _ _ _ _ _ _ _ _ _ = one 𝓤 (λ p q. (alike (p .0) (q .0), refl))
 
-pub sections-held-signed : Determined sections.held_signed.ended (λ _. sections.held_signed.clauses)
-sections-held-signed _ 𝓤 _ _ _ _ _ _ _ _ _ _ _ _ = one 𝓤 (λ p q. (alike p q, refl))
+pub section-held-signed : Determined section.held_signed.ended (λ _. section.held_signed.clauses)
+section-held-signed _ 𝓤 _ _ _ _ _ _ _ _ _ _ _ _ = one 𝓤 (λ p q. (alike p q, refl))
 
-pub sections-length-of : Determined sections.length_of.ended (λ _. sections.length_of.clauses)
-sections-length-of _ 𝓤 _ _ _ _ _ _ _ _ _ _ _ _ = one 𝓤 (λ p q. (alike (p .0) (q .0), refl))
+pub section-length-of : Determined section.length_of.ended (λ _. section.length_of.clauses)
+section-length-of _ 𝓤 _ _ _ _ _ _ _ _ _ _ _ _ = one 𝓤 (λ p q. (alike (p .0) (q .0), refl))
 
-pub sections-octets-in : SeenDetermined sections.octets_in.ended _ (λ _. now) (λ _. sections.octets_in.clauses)
-sections-octets-in _ 𝓤 _ _ _ _ _ _ _ _ _ _ _ _ = one 𝓤 (λ p q. (alike p q, refl))
+pub section-octets-in : SeenDetermined section.octets_in.ended _ (λ _. now) (λ _. section.octets_in.clauses)
+section-octets-in _ 𝓤 _ _ _ _ _ _ _ _ _ _ _ _ = one 𝓤 (λ p q. (alike p q, refl))
 
 -- A pair is a record of two numbers.
 pub bits-eight : Determined bits.eight.ended (λ _. bits.eight.clauses)
@@ -73,12 +73,12 @@ pub bits-octets-of-run : Determined bits.octets_of_run.ended (λ _. bits.octets_
 bits-octets-of-run _ 𝓤 _ _ _ _ _ _ _ _ _ _ _ _ = one 𝓤 (λ p q. (alike p q, refl))
 
 -- A reader is a record of its run and its place: it is the very run that it was made of.
-pub reader-new : Determined reader.new.ended (λ _. reader.new.clauses)
-reader-new _ 𝓤 _ _ _ _ _ _ _ _ _ _ _ _ = one 𝓤 (λ p q. (λ i. record { run = alike (p .0) (q .0) i; at = alike (p .1) (q .1) i }, refl))
+pub bits-reader-new : Determined bits-reader.new.ended (λ _. bits-reader.new.clauses)
+bits-reader-new _ 𝓤 _ _ _ _ _ _ _ _ _ _ _ _ = one 𝓤 (λ p q. (λ i. record { run = alike (p .0) (q .0) i; at = alike (p .1) (q .1) i }, refl))
 
 -- What was read is a record of its number, or its pair, and the reader behind it; what was taken, of the numbers and the place behind them.
-pub reader-next : Determined reader.next.ended (λ _. reader.next.clauses)
-reader-next _ 𝓤 _ _ _ _ _ _ _ _ _ _ _ _ =
+pub bits-reader-next : Determined bits-reader.next.ended (λ _. bits-reader.next.clauses)
+bits-reader-next _ 𝓤 _ _ _ _ _ _ _ _ _ _ _ _ =
     one 𝓤 (λ p q. (
       λ i. record {
         number = alike (p .number) (q .number) i;
@@ -87,8 +87,8 @@ reader-next _ 𝓤 _ _ _ _ _ _ _ _ _ _ _ _ =
       refl,
     ))
 
-pub reader-next-pair : Determined reader.next_pair.ended (λ _. reader.next_pair.clauses)
-reader-next-pair _ 𝓤 _ _ _ _ _ _ _ _ _ _ _ _ =
+pub bits-reader-next-pair : Determined bits-reader.next_pair.ended (λ _. bits-reader.next_pair.clauses)
+bits-reader-next-pair _ 𝓤 _ _ _ _ _ _ _ _ _ _ _ _ =
     one 𝓤 (λ p q. (
       λ i. record {
         pair = record { first = alike (p .first) (q .first) i; second = alike (p .second) (q .second) i };
@@ -97,11 +97,11 @@ reader-next-pair _ 𝓤 _ _ _ _ _ _ _ _ _ _ _ _ =
       refl,
     ))
 
-pub reader-take : Determined reader.take.ended (λ _. reader.take.clauses)
-reader-take _ 𝓤 _ _ _ _ _ _ _ _ _ _ _ _ = one 𝓤 (λ p q. (λ i. record { number = alike (p .0) (q .0) i; next = record { 0 = alike (p .1) (q .1) i } }, refl))
+pub bits-reader-take : Determined bits-reader.take.ended (λ _. bits-reader.take.clauses)
+bits-reader-take _ 𝓤 _ _ _ _ _ _ _ _ _ _ _ _ = one 𝓤 (λ p q. (λ i. record { number = alike (p .0) (q .0) i; next = record { 0 = alike (p .1) (q .1) i } }, refl))
 
-pub reader-take-pair : Determined reader.take_pair.ended (λ _. reader.take_pair.clauses)
-reader-take-pair _ 𝓤 _ _ _ _ _ _ _ _ _ _ _ _ =
+pub bits-reader-take-pair : Determined bits-reader.take_pair.ended (λ _. bits-reader.take_pair.clauses)
+bits-reader-take-pair _ 𝓤 _ _ _ _ _ _ _ _ _ _ _ _ =
     one 𝓤 (λ p q. (λ i. record { first = alike (p .0) (q .0) i; second = alike (p .1) (q .1) i; next = record { 0 = alike (p .2) (q .2) i } }, refl))
 
 -- Numbers and codes of refusals.

@@ -2,23 +2,27 @@
 use mathlib.Core.Path.{refl}
 use Rattle.theorems_outcomes.specs.Determined.{Determined}
 use Rattle.theorems_outcomes.proofs.Facts.{alike, one, two, three}
-use Rattle.question.proofs as fields
-use Rattle.question_decode.proofs as decoding
+use Rattle.question.proofs as question
+use Rattle.question_place.proofs as question-place
+use Rattle.question_decode.proofs as question-decode
 use Rattle.skeptolyr.proofs as skeptolyr
-use Rattle.tests_tell.proofs as tell
-use Rattle.listing_lines.proofs as lines
-use Rattle.listing_file.proofs as listed
+use Rattle.tests_tell.proofs as tests-tell
+use Rattle.listing_lines.proofs as listing-lines
+use Rattle.listing_file.proofs as listing-file
 
--- What is described, and where a point is placed.
-pub fields-describe : Determined fields.describe.ended (λ _. fields.describe.clauses)
-fields-describe _ 𝓤 _ _ _ _ _ _ _ _ _ _ _ _ = one 𝓤 (λ p q. (alike p q, refl))
+-- What is described, how a question is judged, and where a point is placed.
+pub question-describe : Determined question.describe.ended (λ _. question.describe.clauses)
+question-describe _ 𝓤 _ _ _ _ _ _ _ _ _ _ _ _ = one 𝓤 (λ p q. (alike p q, refl))
 
-pub fields-place : Determined fields.place.ended (λ _. fields.place.clauses)
-fields-place _ 𝓤 _ _ _ _ _ _ _ _ _ _ _ _ = one 𝓤 (λ p q. (alike p q, refl))
+pub question-judge : Determined question.judge.ended (λ _. question.judge.clauses)
+question-judge _ 𝓤 _ _ _ _ _ _ _ _ _ _ _ _ = one 𝓤 (λ p q. (alike p q, refl))
+
+pub question-place-place : Determined question-place.place.ended (λ _. question-place.place.clauses)
+question-place-place _ 𝓤 _ _ _ _ _ _ _ _ _ _ _ _ = one 𝓤 (λ p q. (alike p q, refl))
 
 -- What is answered, and both runs afterwards.
-pub decoding-decode : Determined decoding.decode.ended (λ _. decoding.decode.clauses)
-decoding-decode _ 𝓤 _ _ _ _ _ _ _ _ _ _ _ _ =
+pub question-decode-decode : Determined question-decode.decode.ended (λ _. question-decode.decode.clauses)
+question-decode-decode _ 𝓤 _ _ _ _ _ _ _ _ _ _ _ _ =
     three 𝓤 (λ p q. (alike (p .0) (q .0), λ i. (tt, (tt, (tt, (alike (p .1 .0) (q .1 .0) i, (alike (p .1 .1) (q .1 .1) i, tt)))))))
 
 -- What C is answered, and both runs afterwards.
@@ -30,19 +34,19 @@ skeptolyr-skeptolyr-decode _ 𝓤 _ _ _ _ _ _ _ _ _ _ _ _ =
     three 𝓤 (λ p q. (alike (p .0) (q .0), λ i. (tt, (tt, (tt, (alike (p .1 .0) (q .1 .0) i, (alike (p .1 .1) (q .1 .1) i, tt)))))))
 
 -- What C is answered, and the run of numbers afterwards.
-pub tell-tell-describe : Determined tell.tell_describe.ended (λ _. tell.tell_describe.clauses)
-tell-tell-describe _ 𝓤 _ _ _ _ _ _ _ _ _ _ _ _ = two 𝓤 (λ p q. (alike (p .0) (q .0), λ i. (tt, (tt, (alike (p .1) (q .1) i, tt)))))
+pub tests-tell-tell-describe : Determined tests-tell.tell_describe.ended (λ _. tests-tell.tell_describe.clauses)
+tests-tell-tell-describe _ 𝓤 _ _ _ _ _ _ _ _ _ _ _ _ = two 𝓤 (λ p q. (alike (p .0) (q .0), λ i. (tt, (tt, (alike (p .1) (q .1) i, tt)))))
 
-pub tell-tell-place : Determined tell.tell_place.ended (λ _. tell.tell_place.clauses)
-tell-tell-place _ 𝓤 _ _ _ _ _ _ _ _ _ _ _ _ = two 𝓤 (λ p q. (alike (p .0) (q .0), λ i. (tt, (tt, (tt, (alike (p .1) (q .1) i, tt))))))
+pub tests-tell-tell-place : Determined tests-tell.tell_place.ended (λ _. tests-tell.tell_place.clauses)
+tests-tell-tell-place _ 𝓤 _ _ _ _ _ _ _ _ _ _ _ _ = two 𝓤 (λ p q. (alike (p .0) (q .0), λ i. (tt, (tt, (tt, (alike (p .1) (q .1) i, tt))))))
 
 -- What a line says, put into a lent run: where it ends, and what the run holds afterwards.
-pub lines-put-refusal : Determined lines.put_refusal.ended (λ _. lines.put_refusal.clauses)
-lines-put-refusal _ 𝓤 _ _ _ _ _ _ _ _ _ _ _ _ = one 𝓤 (λ p q. (alike (p .1) (q .1), λ i. (alike (p .0) (q .0) i, (tt, (tt, tt)))))
+pub listing-lines-put-refusal : Determined listing-lines.put_refusal.ended (λ _. listing-lines.put_refusal.clauses)
+listing-lines-put-refusal _ 𝓤 _ _ _ _ _ _ _ _ _ _ _ _ = one 𝓤 (λ p q. (alike (p .1) (q .1), λ i. (alike (p .0) (q .0) i, (tt, (tt, tt)))))
 
-pub lines-put-field : Determined lines.put_field.ended (λ _. lines.put_field.clauses)
-lines-put-field _ 𝓤 _ _ _ _ _ _ _ _ _ _ _ _ = one 𝓤 (λ p q. (alike (p .1) (q .1), λ i. (alike (p .0) (q .0) i, (tt, (tt, tt)))))
+pub listing-lines-put-field : Determined listing-lines.put_field.ended (λ _. listing-lines.put_field.clauses)
+listing-lines-put-field _ 𝓤 _ _ _ _ _ _ _ _ _ _ _ _ = one 𝓤 (λ p q. (alike (p .1) (q .1), λ i. (alike (p .0) (q .0) i, (tt, (tt, tt)))))
 
 -- The whole listing, in the same way.
-pub listed-list : Determined listed.list.ended (λ _. listed.list.clauses)
-listed-list _ 𝓤 _ _ _ _ _ _ _ _ _ _ _ _ = one 𝓤 (λ p q. (alike (p .1) (q .1), λ i. (alike (p .0) (q .0) i, (tt, tt))))
+pub listing-file-list : Determined listing-file.list.ended (λ _. listing-file.list.clauses)
+listing-file-list _ 𝓤 _ _ _ _ _ _ _ _ _ _ _ _ = one 𝓤 (λ p q. (alike (p .1) (q .1), λ i. (alike (p .0) (q .0) i, (tt, tt))))
