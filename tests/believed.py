@@ -15,8 +15,9 @@ ROOTS = ['theorems_demands/' + name for name in ('Questions', 'Demand1', 'Demand
 # What check, describe, place, decode and rebuild_one answer, and what decode leaves in the runs: demands 1, 2 and 3 say what they are.
 PINNED = {
     'tiling/Tiling': {'check'},
-    'question/Fields': {'describe', 'place'},
-    'question_decode/Decoding': {'Outcome', 'outcome', 'answerOf', 'valuesAfter', 'presenceAfter'},
+    'question/Describe': {'describe'},
+    'question_place/Place': {'place'},
+    'question_decode/Decoding': {'Outcome', 'outcome', 'answerOf', 'valuesAfter', 'presenceAfter', 'answer', 'valuesLeft', 'presenceLeft'},
     'doubles/Doubles': {'rebuildOne', 'valueOf'},
 }
 

@@ -135,6 +135,37 @@ def short_functions():
                 start = None
 
 
+def contracts_fit():
+    """No line of a contract in Rattle has more than 160 characters."""
+    for name in sources('.rt'):
+        for number, line in enumerate(lines_of(name), 1):
+            if re.match(r'\s*(requires|ensures) ', line) and len(line) > 160:
+                yield '%s:%d: %d characters' % (name, number, len(line))
+
+
+def names_mean_one_thing():
+    """No two crates define the same name in specs/, and none there has the name of another crate's struct or enum."""
+    homes = {}
+    for name in sources('.antt', '.rt'):
+        crate, folder = name.split('/')[1:3]
+        head = r'\s*pub (?:struct|enum) (\w+)' if folder == 'src' else r'\s*(?:abbrev |unfoldable )(?:pub )?(\S+) :|\s*(?:pub )?(?:record|data) (\S+) '
+        for line in lines_of(name) if folder in ('src', 'specs') else []:
+            found = re.match(head, line)
+            if found:
+                homes.setdefault(next(filter(None, found.groups())), set()).add(crate)
+    for word, crates in sorted(homes.items()):
+        if len(crates) > 1:
+            yield '%s: %s' % (word, ', '.join(sorted(crates)))
+
+
+def code_stands_on_code():
+    """No crate but those of theorems and of tests stands on a crate of theorems."""
+    for name, line in listed().items():
+        for under in line.split('#')[0].split(':')[1].split():
+            if under.startswith('theorems_') and not name.startswith(('theorems_', 'tests_')):
+                yield 'crates.txt: %s stands on %s' % (name, under)
+
+
 def nothing_asked_of_users():
     """No function that docs/DEMANDS.md lists as called by users has a `requires`, and every one that C calls is listed."""
     text = '\n'.join(lines_of('docs/DEMANDS.md'))
@@ -162,9 +193,13 @@ def outcomes_are_determined():
             if function:
                 functions['%s.%s' % (crate.group(1), function.group(1))] = '%s:%d' % (name, number)
         for number, line in enumerate(lines_of(name) if name.startswith('crates/theorems_outcomes/proofs/') else [], 1):
-            theorem = re.match(r'pub (\S+) : (?:Seen)?Determined (\w+\.\w+)\.ended .*\(λ _\. (\w+\.\w+)\.clauses\)$', line)
+            use = re.match(r'use Rattle·(\w+)\.proofs as (\S+)$', line)
+            if use and use.group(2) != use.group(1).replace('_', '-'):
+                yield '%s:%d: %s stands for %s' % (name, number, use.group(2), use.group(1))
+            theorem = re.match(r'pub (\S+) : (?:Seen)?Determined ([\w-]+\.\w+)\.ended .*\(λ _\. ([\w-]+\.\w+)\.clauses\)$', line)
             if theorem:
-                theorems[theorem.group(2)] = '%s:%d' % (name, number)
+                crate, function = theorem.group(2).split('.')
+                theorems['%s.%s' % (crate.replace('-', '_'), function)] = '%s:%d' % (name, number)
                 if theorem.group(1) != re.sub('[._]', '-', theorem.group(2)) or theorem.group(3) != theorem.group(2):
                     yield '%s:%d: %s is of %s and %s' % ((name, number) + theorem.groups())
     for function in sorted(set(functions) ^ set(theorems)):
@@ -261,7 +296,7 @@ def own_words():
                 yield '%s:%d' % (name, number)
 
 
-RULES = [crates_are_listed, lowest_first, sources_in_crates, layout, must_fail_edits, opening_comments, printed_places, unused_names, short_functions, nothing_asked_of_users, outcomes_are_determined, trust_is_counted, demands_name_what_is_there, evidence_is_counted, version_is_told, sample_is_the_sample, own_words]
+RULES = [crates_are_listed, lowest_first, sources_in_crates, layout, must_fail_edits, opening_comments, printed_places, unused_names, short_functions, contracts_fit, names_mean_one_thing, code_stands_on_code, nothing_asked_of_users, outcomes_are_determined, trust_is_counted, demands_name_what_is_there, evidence_is_counted, version_is_told, sample_is_the_sample, own_words]
 
 
 def main():
