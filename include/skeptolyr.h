@@ -35,7 +35,7 @@ extern "C" {
 #endif
 
 /* The version of this header, and of the archive that was installed with it. CHANGELOG.md says what each of its numbers stands for. */
-#define SKEPTOLYR_VERSION "1.0.0"
+#define SKEPTOLYR_VERSION "1.0.1"
 
 /* The longest file that is taken, and the most points that a field can have. */
 #define SKEPTOLYR_MOST_OCTETS 268435456
@@ -75,8 +75,8 @@ uint64_t skeptolyr_decode(const uint8_t *file, size_t file_len, size_t k, size_t
 /* ---- Refusals */
 
 /* Why a question is refused; skeptolyr_refusal_text has a sentence on each. Places are counted in octets from 0, the start of the file, and a
- * section's or a message's place is where it starts. Of several reasons the lowest number is given, except that among 3 to 7 it is the first in
- * the file.
+ * section's or a message's place is where it starts. Of several reasons one is given, the first in this order: 1 and 2, which are about the file's
+ * length; 3 to 7, of which the file's own order decides; 8; 9 to 14, the field's sections; then 17, or 15 and behind it 16.
  */
 enum skeptolyr_refusal {
     /* The name                        number    the place */
