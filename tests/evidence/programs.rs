@@ -1,4 +1,4 @@
-//! The programs that read standard input: `listing`, and `ask`, which rebuilds doubles.
+//! The programs that read standard input: `listing`, and `tests_ask`, which rebuilds doubles.
 use crate::damage::damaged;
 use crate::files::{small_bases, valid};
 use crate::make::Signed;
@@ -9,7 +9,7 @@ use std::thread;
 
 /// The most octets that the listing program takes.
 pub const MOST_OCTETS: usize = 65_536;
-/// A question to `ask`, and the most of them that one run takes.
+/// A question to `tests_ask`, and the most of them that one run takes.
 const RECORD: usize = 32;
 const RECORDS_A_RUN: u64 = (MOST_OCTETS / RECORD) as u64;
 const MOST_SHOWN: u64 = 5;
@@ -96,7 +96,7 @@ pub fn random_rebuild(random: &mut Random) -> Rebuild {
     Rebuild { r, e, d, x }
 }
 
-/// The question as `ask` reads it, and the line that it has to print.
+/// The question as `tests_ask` reads it, and the line that it has to print.
 pub fn record(question: &Rebuild, minus_zero: bool) -> (Vec<u8>, String) {
     let signed = |value: i64| if value == 0 && minus_zero { Signed::MINUS_ZERO } else { value.into() };
     let mut octets = [&[1], &question.r.to_be_bytes()[..]].concat();
@@ -109,7 +109,7 @@ pub fn record(question: &Rebuild, minus_zero: bool) -> (Vec<u8>, String) {
     (octets, line)
 }
 
-/// One run of `ask`. Answers how many doubles it gave, and how many answers differ, the bound of demand 3 among what is compared.
+/// One run of `tests_ask`. Answers how many doubles it gave, and how many answers differ, the bound of demand 3 among what is compared.
 fn rebuild_many(random: &mut Random, seed: u64, count: u64, command: &[String]) -> io::Result<(u64, u64)> {
     let questions: Vec<Rebuild> = (0..count).map(|_| random_rebuild(random)).collect();
     let records: Vec<(Vec<u8>, String)> = questions.iter().map(|question| record(question, random.chance(1, 2))).collect();

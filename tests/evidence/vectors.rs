@@ -63,7 +63,7 @@ fn decodes(seed: u64) -> (Vec<u8>, String) {
     (input, output)
 }
 
-/// Questions that rebuild a double, for the program `ask`.
+/// Questions that rebuild a double, for the program `tests_ask`.
 fn rebuilds(seed: u64) -> (Vec<u8>, String) {
     let random = &mut Random::new(seed);
     let (mut input, mut output) = (Vec::new(), String::new());
@@ -78,7 +78,14 @@ fn rebuilds(seed: u64) -> (Vec<u8>, String) {
 
 /// Writes what a program reads and has to print, by its name, into a folder.
 pub fn write(name: &str, seed: u64, folder: &str) -> io::Result<bool> {
-    let (input, output) = if name == "ask" { rebuilds(seed) } else { decodes(seed) };
+    let (input, output) = match name {
+        "vectors" => decodes(seed),
+        "tests_ask" => rebuilds(seed),
+        _ => {
+            println!("no vectors are made for a program {}", name);
+            return Ok(false);
+        }
+    };
     fs::write(Path::new(folder).join("stdin"), input)?;
     fs::write(Path::new(folder).join("stdout"), &output)?;
     println!("seed {}: {} vectors for {}", seed, output.lines().count(), name);

@@ -10,8 +10,8 @@ use Rattle.refusals.specs.declared.Why.{Why}
 use Rattle.refusals.specs.declared.Why.the-variants as Why
 use Rattle.refusals.specs.Refusals.{numberOf, codeOf, order, stepsBefore}
 
--- The numbers run from 1 to 19.
-pub numbered : (why : Why) → (1 ≤ numberOf why) × (numberOf why ≤ 19)
+-- The numbers are small: they leave room for the place below them and for the top bit above them.
+pub numbered : (why : Why) → (1 ≤ numberOf why) × (numberOf why ≤ 255)
 numbered Why.TooLong = (omega arith, omega arith)
 numbered Why.Empty = (omega arith, omega arith)
 numbered Why.Cut = (omega arith, omega arith)
@@ -71,7 +71,7 @@ pub record Told (r : Refusal) : Type 0 where
 pub code-tells : (r : Refusal) → r .place .0 < 2 ^ 32 → Told r
 code-tells r h = told (numbered (r .why))
   where
-    told : (1 ≤ numberOf (r .why)) × (numberOf (r .why) ≤ 19) → Told r
+    told : (1 ≤ numberOf (r .why)) × (numberOf (r .why) ≤ 255) → Told r
     told n = record { isRefusal = omega arith; number = omega arith; place = omega arith; fits = omega arith }
 
 -- The order of refusals, step by step: whoever compares two of them adds up these steps.

@@ -1,4 +1,4 @@
--- `refusals::code_of` meets its contract: the sum fits, since a number is at most 19 and the place is below 2 ^ 32.
+-- `refusals::code_of` meets its contract: the sum fits, since a number is at most 255 and the place is below 2 ^ 32.
 use Prim.Native.Nat.{_≤_}
 use native.Mathlib.Omega.{arith}
 use borrow.Author.Needs.{needs}
@@ -9,7 +9,7 @@ use Rattle.refusals.proofs.code_of.Tie as tie
 number-of-requires : tie.Need-number-of-requires
 number-of-requires c κs = search needs
 
-most : (c : tie.After-number-of) → c .number-of .result ≤ 19
+most : (c : tie.After-number-of) → c .number-of .result ≤ 255
 most c = rw (c .number-of .ensures) (numbered (c .before .args .refusal .why) .1)
 
 mul-result : tie.Need-mul-result
