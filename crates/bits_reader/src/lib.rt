@@ -52,7 +52,7 @@ pub fn next<'a>(reader: BitReader<'a>, b: u32) -> Read<'a>
 {
     let run = reader.run;
     let at = reader.at;
-    // The place behind comes first: worked out after the number, it made the loop over a group with a bitmap a hundredth slower.
+    // The place behind comes first: worked out after the number, it makes the loop over a group with a bitmap a hundredth slower.
     let behind = bits::after(at, b);
     Read {
         number: bits::read_bits(run, at, b),

@@ -38,8 +38,8 @@ numberOf Why.NotRebuildable = 19
 abbrev pub codeOf : Refusal → ℕ
 codeOf r = 2 ^ 63 + numberOf (r .why) * 2 ^ 32 + r .place .0
 
--- The order in which refusals are tried, first to last, by their numbers: it is an order of its own, and not that of the numbers. A program's input is judged before all else; then the file's length and its tiling; then the
--- field, its sections in force, and what is asked of the field.
+-- The order in which refusals are tried, first to last, by their numbers: it is an order of its own, and not that of the numbers. A program's input is
+-- judged before all else; then the file's length and its tiling; then the field, its sections in force, and what is asked of the field.
 abbrev pub order : List ℕ
 order = 18 ∷ 1 ∷ 2 ∷ 3 ∷ 8 ∷ 9 ∷ 10 ∷ 11 ∷ 12 ∷ 13 ∷ 14 ∷ 17 ∷ 15 ∷ 16 ∷ 19 ∷ []
 
