@@ -17,7 +17,7 @@ PINNED = {
     'tiling/Tiling': {'check'},
     'question/Describe': {'describe'},
     'question_place/Place': {'place'},
-    'question_decode/Decoding': {'Outcome', 'outcome', 'answerOf', 'valuesAfter', 'presenceAfter', 'answer', 'valuesLeft', 'presenceLeft'},
+    'question_decode/Decoding': {'answer', 'valuesLeft', 'presenceLeft'},
     'doubles/Doubles': {'rebuildOne', 'valueOf'},
 }
 

@@ -89,13 +89,14 @@ abbrev pub presenceAfter : ℕ → List ℕ → Outcome → List ℕ
 presenceAfter start presence (gives points doubles marks) = laid presence start marks
 presenceAfter start presence (refuses r) = presence
 
--- A call's answer, and what its two runs hold afterwards, by what they held before.
-module _ (file : List ℕ) (k start : ℕ) (values : List Float) (presence : List ℕ) where
-  abbrev pub outcomeTo : Outcome
-  outcomeTo = outcome file k start (length values) (length presence)
+-- The answer of a call, by the lengths of its two runs.
+abbrev pub answer : List ℕ → ℕ → ℕ → ℕ → ℕ → Decoded
+answer file k start values presence = answerOf (outcome file k start values presence)
 
-  abbrev pub answer : Decoded
-  answer = answerOf outcomeTo
+-- What its two runs hold afterwards, by what they held before.
+module _ (file : List ℕ) (k start : ℕ) (values : List Float) (presence : List ℕ) where
+  abbrev outcomeTo : Outcome
+  outcomeTo = outcome file k start (length values) (length presence)
 
   abbrev pub valuesLeft : List Float
   valuesLeft = valuesAfter start values outcomeTo

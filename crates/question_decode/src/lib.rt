@@ -144,7 +144,7 @@ pub fn decode(
     values: &mut [f64],
     presence: &mut [u8],
 ) -> Decoded
-    ensures { λ r. ⌜ r ≡ answer (now (file .entry)) k start (now (values .entry)) (now (presence .entry)) ⌝ }
+    ensures { λ r. ⌜ r ≡ answer (now (file .entry)) k start (length (now (values .entry))) (length (now (presence .entry))) ⌝ }
     ensures { λ _. ⌜ now (values .exit) ≡ valuesLeft (now (file .entry)) k start (now (values .entry)) (now (presence .entry)) ⌝ }
     ensures { λ _. ⌜ now (presence .exit) ≡ presenceLeft (now (file .entry)) k start (now (values .entry)) (now (presence .entry)) ⌝ }
 {

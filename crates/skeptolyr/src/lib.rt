@@ -1,5 +1,6 @@
 // What C calls: numbers and lent slices go in, and one number of 64 bits comes out.
 ghost use mathlib.Core.Path.{_≡_};
+ghost use lib.ListN.{length};
 ghost use Rattle.tiling.specs.Tiling.{check};
 ghost use Rattle.question_decode.specs.Decoding.{answer, valuesLeft, presenceLeft};
 ghost use Rattle.skeptolyr.specs.Codes.{checkCode, decodeCode};
@@ -26,7 +27,7 @@ pub extern "C" fn skeptolyr_decode(
     values: &mut [f64],
     presence: &mut [u8],
 ) -> u64
-    ensures { λ r. ⌜ r ≡ decodeCode (answer (now (file .entry)) k start (now (values .entry)) (now (presence .entry))) ⌝ }
+    ensures { λ r. ⌜ r ≡ decodeCode (answer (now (file .entry)) k start (length (now (values .entry))) (length (now (presence .entry)))) ⌝ }
     ensures { λ _. ⌜ now (values .exit) ≡ valuesLeft (now (file .entry)) k start (now (values .entry)) (now (presence .entry)) ⌝ }
     ensures { λ _. ⌜ now (presence .exit) ≡ presenceLeft (now (file .entry)) k start (now (values .entry)) (now (presence .entry)) ⌝ }
 {

@@ -63,9 +63,9 @@ use Rattle.question.specs.Judged.{Judged}
 use Rattle.question.proofs.Laws.{described, described-judged, room-fits}
 use Rattle.question.proofs.Chain.{at-section-1, at-section-3, at-section-4, at-section-5, at-section-6, at-section-7}
 use Rattle.question_place.specs.Place.{placedBy}
-use Rattle.question_decode.specs.Decoding.{Outcome, gives, refuses, outcomeBy, outcome, answerOf}
+use Rattle.question_decode.specs.Decoding.{Outcome, gives, refuses, outcomeBy, outcome, answerOf, valuesAfter, presenceAfter}
 use Rattle.theorems_demands.specs.Questions.{Question, Verdict, ofChecked, ofDescribed, ofPlaced, ofDecoded, verdict, check, describe, place, decode, answered, refused}
-use Rattle.theorems_demands.specs.Demand1.{FieldAt, Names, describes, places, decodes, About, AsksPoint, asks, Lends, lends, Applies, First, Untouched, Demand1}
+use Rattle.theorems_demands.specs.Demand1.{FieldAt, Names, describes, places, decodes, About, AsksPoint, asks, Lends, lends, Applies, First, Demand1}
 use Rattle.theorems_demands.specs.Demand1 as Spec
 
 -- A field is refused by s, or by a refusal that comes before s.
@@ -481,6 +481,6 @@ demand-1 file =
         by answered e = refl
         by (refused r) e = absurd (none r (applies-of file q e))
 
-    kept : (start : ℕ) (values : List Float) (presence : List ℕ) {r : Refusal} (o : Outcome) → ofDecoded (answerOf o) ≡ refused r → Untouched start values presence o
+    kept : (start : ℕ) (values : List Float) (presence : List ℕ) {r : Refusal} (o : Outcome) → ofDecoded (answerOf o) ≡ refused r → (valuesAfter start values o ≡ values) × (presenceAfter start presence o ≡ presence)
     kept start values presence (gives points doubles marks) e = clash-verdict e
     kept start values presence (refuses f) e = (refl, refl)

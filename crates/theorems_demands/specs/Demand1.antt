@@ -28,7 +28,7 @@ use Rattle.section_7.specs.declared.Packed.the-variants as Packed
 use Rattle.doubles.specs.Doubles as Doubles
 use Rattle.values_integers.specs.Integers.{integerAt}
 use Rattle.question.specs.Judged.{identificationOf, gridOf, productOf, representationOf, presenceOf, dataOf}
-use Rattle.question_decode.specs.Decoding.{Outcome, outcome, valuesAfter, presenceAfter}
+use Rattle.question_decode.specs.Decoding.{valuesLeft, presenceLeft}
 use Rattle.theorems_demands.specs.Questions.{Question, verdict, describe, place, decode, answered, refused}
 
 -- Field k of the file lies at l: the grammar accepts the file, and l is the place of its field k, counted from 0 over all messages.
@@ -127,8 +127,8 @@ pub record First (file : List ℕ) (q : Question) (r : Refusal) : Type 0 where
   pub foremost : (s : Refusal) → Applies file q s → rank r ≤ rank s
 
 -- Decode leaves both runs as they were.
-abbrev pub Untouched : ℕ → List Float → List ℕ → Outcome → Type 0
-Untouched start values presence o = (valuesAfter start values o ≡ values) × (presenceAfter start presence o ≡ presence)
+abbrev pub Untouched : List ℕ → ℕ → ℕ → List Float → List ℕ → Type 0
+Untouched file k start values presence = (valuesLeft file k start values presence ≡ values) × (presenceLeft file k start values presence ≡ presence)
 
 -- The demand, of every file and every question.
 pub record Demand1 (file : List ℕ) : Type 0 where
@@ -142,4 +142,4 @@ pub record Demand1 (file : List ℕ) : Type 0 where
   pub untouched :
       (k start : ℕ) (values : List Float) (presence : List ℕ) (r : Refusal) →
       verdict file (decode k start (length values) (length presence)) ≡ refused r →
-      Untouched start values presence (outcome file k start (length values) (length presence))
+      Untouched file k start values presence

@@ -52,7 +52,7 @@ pub record Call : Type 0 where
 module _ (file : List ℕ) (c : Call) where
   -- Its answer, and what stands at a place of each run afterwards, by the contract of decode.
   abbrev pub answerTo : declared.Decoded
-  answerTo = answer file (c .k) (c .start) (c .values) (c .presence)
+  answerTo = answer file (c .k) (c .start) (length (c .values)) (length (c .presence))
 
   abbrev pub valueAt : ℕ → Float
   valueAt i = getD (valuesLeft file (c .k) (c .start) (c .values) (c .presence)) i nan

@@ -4,6 +4,7 @@ use Prim.Native.Nat.{ℕ}
 use mathlib.Core.Path.{_≡_}
 use mathlib.Core.List.{List}
 use lib.Ieee.{Float}
+use lib.ListN.{length}
 use Rattle.refusals.specs.declared.Refusal.{Refusal}
 use Rattle.tiling.specs.declared.Checked as declaredChecked
 use Rattle.tiling.specs.declared.Checked.the-variants as Checked
@@ -32,7 +33,7 @@ Decoder = List ℕ → ℕ → ℕ → List Float → List ℕ → Left
 abbrev pub leftBy : Decoder
 leftBy file k start values presence =
     record {
-      answer = answer file k start values presence;
+      answer = answer file k start (length values) (length presence);
       values = valuesLeft file k start values presence;
       presence = presenceLeft file k start values presence;
     }

@@ -14,7 +14,7 @@ use Rattle.question_place.specs.declared.Placed.the-variants as Placed
 use Rattle.question_place.specs.Place as Place
 use Rattle.question_decode.specs.declared.Decoded.{Decoded}
 use Rattle.question_decode.specs.declared.Decoded.the-variants as Decoded
-use Rattle.question_decode.specs.Decoding.{outcome, answerOf}
+use Rattle.question_decode.specs.Decoding.{answer}
 
 -- Check the file; describe field k; place point n of field k; decode field k from a start index on, into runs of these two lengths.
 pub data Question : Type 0 where
@@ -48,4 +48,4 @@ abbrev pub verdict : List ℕ → Question → Verdict
 verdict file check = ofChecked (Tiling.check file)
 verdict file (describe k) = ofDescribed (Describe.describe file k)
 verdict file (place k n) = ofPlaced (Place.place file k n)
-verdict file (decode k start values presence) = ofDecoded (answerOf (outcome file k start values presence))
+verdict file (decode k start values presence) = ofDecoded (answer file k start values presence)
