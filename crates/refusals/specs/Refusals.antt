@@ -52,6 +52,6 @@ unfoldable pub stepsBefore : List ℕ → ℕ → ℕ
 stepsBefore [] step = 0
 stepsBefore (first ∷ later) step = cond (eqb first step) 0 (suc (stepsBefore later step))
 
--- Where a refusal stands in the order.
-abbrev pub rank : Refusal → ℕ
-rank r = stepsBefore order (stepOf (numberOf (r .why)))
+-- Where the refusal of this number stands in the order.
+abbrev pub rank : ℕ → ℕ
+rank number = stepsBefore order (stepOf number)

@@ -27,7 +27,7 @@ use Rattle.tiling.specs.Heads as Heads
 use Rattle.tiling.specs.Tiling as Tiling
 use Rattle.tiling.specs.Tiling.{largest, InFile, tilingOf}
 use Rattle.theorems_grammar.specs.Refusals as Refusals
-use Rattle.theorems_grammar.specs.Refusals.{Faulty}
+use Rattle.theorems_grammar.specs.Refusals.{Before, Faulty}
 use Rattle.theorems_grammar.proofs.Accepted.{tiles-so}
 use Rattle.theorems_grammar.proofs.Refusals.{refuses-so, check-refuses}
 use Rattle.section_1.specs.declared.Identification.{Identification}
@@ -64,52 +64,56 @@ use Rattle.question.proofs.Laws.{described, described-judged, room-fits}
 use Rattle.question.proofs.Chain.{at-section-1, at-section-3, at-section-4, at-section-5, at-section-6, at-section-7}
 use Rattle.question_place.specs.Place.{placedBy}
 use Rattle.question_decode.specs.Decoding.{Outcome, gives, refuses, outcomeBy, outcome, answerOf, valuesAfter, presenceAfter}
-use Rattle.theorems_demands.specs.Questions.{Question, Verdict, ofChecked, ofDescribed, ofPlaced, ofDecoded, verdict, check, describe, place, decode, answered, refused}
-use Rattle.theorems_demands.specs.Demand1.{FieldAt, Names, describes, places, decodes, About, AsksPoint, asks, Lends, lends, Applies, First, Demand1}
+use Rattle.theorems_demands.specs.Questions.{Question, Verdict, ofChecked, ofDescribed, ofPlaced, ofDecoded, verdict, check, describe, place, decode, answered, refused, refusedBy}
+use Rattle.theorems_demands.specs.Demand1.{FieldAt, Names, describes, places, decodes, About, AsksPoint, asks, Lends, lends, Fault, Applies, First, Demand1}
 use Rattle.theorems_demands.specs.Demand1 as Spec
+
+-- Where a refusal stands in the order.
+abbrev step : Refusal → ℕ
+step r = rank (numberOf (r .why))
 
 -- A field is refused by s, or by a refusal that comes before s.
 abbrev CaughtIn : Refusal → Described → Type 0
-CaughtIn s a = (r : Refusal) × (a ≡ Described.Refused r) × ((r ≡ s) ⊎ (rank r < rank s))
+CaughtIn s a = (r : Refusal) × (a ≡ Described.Refused r) × ((r ≡ s) ⊎ (step r < step s))
 
 here : {s : Refusal} → CaughtIn s (Described.Refused s)
 here {s} = (s, refl, inl refl)
 
-sooner : {s : Refusal} (t : Refusal) → rank t < rank s → CaughtIn s (Described.Refused t)
+sooner : {s : Refusal} (t : Refusal) → step t < step s → CaughtIn s (Described.Refused t)
 sooner t before = (t, refl, inr before)
 
 -- Each section in its turn: where it is not taken, that comes before s, and where it is taken, s is caught behind it.
 module _ (file : List ℕ) (l : Located) (s : Refusal) where
   past-1 :
-      stepsBefore order 9 < rank s →
+      stepsBefore order 9 < step s →
       ((i : Identification) → identificationAt file (l .starts .one .0) ≡ Identified.As i → CaughtIn s (gridded file l i (gridAt file (l .starts .three .0)))) →
       CaughtIn s (describedAt file l)
   past-1 before = at-section-1 file l (CaughtIn s) (λ _. sooner _ before)
 
   module _ (i : Identification) where
     past-3 :
-        stepsBefore order 10 < rank s →
+        stepsBefore order 10 < step s →
         ((g : Grid) → gridAt file (l .starts .three .0) ≡ Gridded.On g → CaughtIn s (defined file l i g (productDefinitionAt file (l .starts .four .0) (i .reference)))) →
         CaughtIn s (gridded file l i (gridAt file (l .starts .three .0)))
     past-3 before = at-section-3 file l (CaughtIn s) i (λ _. sooner _ before)
 
     module _ (g : Grid) where
       past-4 :
-          stepsBefore order 11 < rank s →
+          stepsBefore order 11 < step s →
           ((m : ProductDefinition) → productDefinitionAt file (l .starts .four .0) (i .reference) ≡ Defined.As m → CaughtIn s (represented file l i g m (representationAt file (l .starts .five .0)))) →
           CaughtIn s (defined file l i g (productDefinitionAt file (l .starts .four .0) (i .reference)))
       past-4 before = at-section-4 file l (CaughtIn s) i g (λ _. sooner _ before)
 
       module _ (m : ProductDefinition) where
         past-5 :
-            stepsBefore order 12 < rank s →
+            stepsBefore order 12 < step s →
             ((r : Representation) → representationAt file (l .starts .five .0) ≡ Represented.By r → CaughtIn s (marked file l i g m r (presenceAt file (l .starts .six .0) (l .bitmap) (pointsOf g) (r .n)))) →
             CaughtIn s (represented file l i g m (representationAt file (l .starts .five .0)))
         past-5 before = at-section-5 file l (CaughtIn s) i g m (λ _. sooner _ before)
 
         module _ (r : Representation) where
           past-6 :
-              stepsBefore order 13 < rank s →
+              stepsBefore order 13 < step s →
               ((p : Presence) → presenceAt file (l .starts .six .0) (l .bitmap) (pointsOf g) (r .n) ≡ Marked.As p → CaughtIn s (packed file l i g m r p (dataAt file (l .starts .seven .0) r))) →
               CaughtIn s (marked file l i g m r (presenceAt file (l .starts .six .0) (l .bitmap) (pointsOf g) (r .n)))
           past-6 before = at-section-6 file l (CaughtIn s) i g m r (λ _. sooner _ before)
@@ -176,7 +180,7 @@ module _ (file : List ℕ) (l : Located) where
   CaughtOr s a = CaughtIn s a ⊎ ((d : Description) × (a ≡ Described.As d))
 
   -- Behind 14, the field is described, or it is refused by what comes before s.
-  described-or : (s : Refusal) → stepsBefore order 14 < rank s → CaughtOr s (describedAt file l)
+  described-or : (s : Refusal) → stepsBefore order 14 < step s → CaughtOr s (describedAt file l)
   described-or s behind =
       at-section-1 file l (CaughtOr s) (λ _. inl (sooner _ (omega (arith, in-order, behind))))
       (λ i _. at-section-3 file l (CaughtOr s) i (λ _. inl (sooner _ (omega (arith, in-order, behind))))
@@ -186,18 +190,26 @@ module _ (file : List ℕ) (l : Located) where
       (λ p _. at-section-7 file l (CaughtOr s) i g m r p (λ _. inl (sooner _ behind)) (λ x _. inr (_, refl)))))))
 
 -- An answer is no refusal, and a refusal is one alone.
-clash-verdict : {A : Type 0} {r : Refusal} → answered ≡ refused r → A
+clash-verdict : {A : Type 0} {number place : ℕ} → answered ≡ refused number place → A
 clash-verdict e = apart cc
 
-one-verdict : {r s : Refusal} → refused r ≡ refused s → r ≡ s
-one-verdict e = cc
+one-verdict : {number place other elsewhere : ℕ} → refused number place ≡ refused other elsewhere → (number ≡ other) × (place ≡ elsewhere)
+one-verdict e = (cc, cc)
 
 -- A question is refused by s, or by a refusal that comes before s.
 abbrev Caught : List ℕ → Question → Refusal → Type 0
-Caught file q s = (r : Refusal) × (verdict file q ≡ refused r) × ((r ≡ s) ⊎ (rank r < rank s))
+Caught file q s = (r : Refusal) × (verdict file q ≡ refusedBy r) × ((r ≡ s) ⊎ (step r < step s))
+
+-- The same, where s is told by its number and its place.
+abbrev CaughtTold : List ℕ → Question → ℕ → ℕ → Type 0
+CaughtTold file q m p = (r : Refusal) × (verdict file q ≡ refusedBy r) × (((numberOf (r .why) ≡ m) × (r .place .0 ≡ p)) ⊎ (step r < rank m))
+
+told : (file : List ℕ) (q : Question) (s : Refusal) → Caught file q s → CaughtTold file q (numberOf (s .why)) (s .place .0)
+told file q s (r, given, inl same) = (r, given, inl (ap (λ (f : Refusal). numberOf (f .why)) same, ap (λ (f : Refusal). f .place .0) same))
+told file q s (r, given, inr before) = (r, given, inr before)
 
 -- A fault of the tiling is at the step of the tiling.
-tiling-step : {file : List ℕ} {p : ℕ} {r : Refusal} → Faulty file p r → rank r ≡ stepsBefore order 3
+tiling-step : {file : List ℕ} {p : ℕ} {r : Refusal} → Faulty file p r → step r ≡ stepsBefore order 3
 tiling-step (Refusals.Faulty.heading heads) = by heads
   where
     by : {file : List ℕ} {p : ℕ} {why : declaredWhy.Why} → Heads.Heads file p (Header.Bad why) → stepsBefore order (stepOf (numberOf why)) ≡ stepsBefore order 3
@@ -220,7 +232,7 @@ module _ (file : List ℕ) where
       ∙ rw (lt-ltb k (length (at .fields)) (at .below)) (ap (describedAt file) (at .lies))
 
   -- A question about field k is refused where describe refuses it.
-  asked : {q : Question} {k : ℕ} {r : Refusal} → Names q k → Describe.describe file k ≡ Described.Refused r → verdict file q ≡ refused r
+  asked : {q : Question} {k : ℕ} {r : Refusal} → Names q k → Describe.describe file k ≡ Described.Refused r → verdict file q ≡ refusedBy r
   asked describes e = rw e
   asked places e = rw e
   asked decodes e = rw e
@@ -228,7 +240,7 @@ module _ (file : List ℕ) where
   caught-by : {q : Question} {l : Located} {s : Refusal} → About file q l → CaughtIn s (describedAt file l) → Caught file q s
   caught-by about caught = (caught .0, asked (about .names) (described-is (about .lies) ∙ caught .1), caught .2)
 
-  file-refused : {r : Refusal} (q : Question) → Refusals.Refused file r → verdict file q ≡ refused r
+  file-refused : {r : Refusal} (q : Question) → Refusals.Refused file r → verdict file q ≡ refusedBy r
   file-refused {r} check bad = rw (check-refuses file r .1 bad)
   file-refused {r} (describe k) bad = asked describes (ap (fieldIn file k) (refuses-so file r .1 bad))
   file-refused {r} (place k n) bad = asked places (ap (fieldIn file k) (refuses-so file r .1 bad))
@@ -244,10 +256,10 @@ module _ (file : List ℕ) where
       Lends q start values presence →
       describedAt file l ≡ Described.As d →
       valuesAsked file start values presence d ≡ Described.Refused r →
-      verdict file q ≡ refused r
+      verdict file q ≡ refusedBy r
   decoded-as {l = l} {r = r} about (lends {k} {start} {values} {presence}) said e = by (about .names) (about .lies)
     where
-      by : {j : ℕ} → Names (decode k start values presence) j → FieldAt file j l → verdict file (decode k start values presence) ≡ refused r
+      by : {j : ℕ} → Names (decode k start values presence) j → FieldAt file j l → verdict file (decode k start values presence) ≡ refusedBy r
       by decodes at =
           ap (λ (a : Described). ofDecoded (answerOf (outcomeBy file (askedOf file (Asks.Values start values presence) a)))) (described-is at ∙ said)
           ∙ ap (λ (a : Described). ofDecoded (answerOf (outcomeBy file a))) e
@@ -258,10 +270,10 @@ module _ (file : List ℕ) where
       AsksPoint q n →
       describedAt file l ≡ Described.As d →
       pointAsked n d ≡ Described.Refused r →
-      verdict file q ≡ refused r
+      verdict file q ≡ refusedBy r
   placed-as {l = l} {r = r} about (asks {k} {n}) said e = by (about .names) (about .lies)
     where
-      by : {j : ℕ} → Names (place k n) j → FieldAt file j l → verdict file (place k n) ≡ refused r
+      by : {j : ℕ} → Names (place k n) j → FieldAt file j l → verdict file (place k n) ≡ refusedBy r
       by places at =
           ap (λ (a : Described). ofPlaced (placedBy n (askedOf file (Asks.Point n) a))) (described-is at ∙ said) ∙ ap (λ (a : Described). ofPlaced (placedBy n a)) e
 
@@ -282,7 +294,7 @@ module _ (file : List ℕ) where
           let same : g ≡ d .grid = cc in
           split (hasRoom start (pointsOf (d .grid)) values presence)
           (λ room. absurd (fits (rw same (room-fits start (pointsOf (d .grid)) values presence room))))
-          (λ none. (refusal Why.NoRoom 0, decoded-as about lent said (rw none), inl refl))
+          (λ none. (refusal Why.NoRoom 0, decoded-as {r = refusal Why.NoRoom 0} about lent said (rw none), inl refl))
 
   -- 16: an integer is out of its range.
   out :
@@ -309,8 +321,8 @@ module _ (file : List ℕ) where
           let within = in-range-one (integerOf file d) (d .representation .n) {j = m} all (rw (sym same) among) in
           let outside-too : isInRange (integerOf file d m) ≡ false = rw (sym same, sym seven) outside in
           apart cc)
-          (λ fails. (refusal Why.ValueOutOfRange (d .starts .seven .0), decoded-as about lent said (rw (room, fails)), inl (ap (refusal Why.ValueOutOfRange) (sym seven)))))
-          (λ none. (refusal Why.NoRoom 0, decoded-as about lent said (rw none), inr (omega (arith, in-order))))
+          (λ fails. (refusal Why.ValueOutOfRange (d .starts .seven .0), decoded-as {r = refusal Why.ValueOutOfRange (d .starts .seven .0)} about lent said (rw (room, fails)), inl (ap (refusal Why.ValueOutOfRange) (sym seven)))))
+          (λ none. (refusal Why.NoRoom 0, decoded-as {r = refusal Why.NoRoom 0} about lent said (rw none), inr (omega (arith, in-order))))
 
   -- 17: there is no such point.
   beyond :
@@ -327,33 +339,62 @@ module _ (file : List ℕ) where
       by (inr (d, said)) =
           let of-grid = described-judged file l d said .ofThree in
           let same : g ≡ d .grid = cc in
-          (refusal Why.NoSuchPoint 0, placed-as about asked-point said (rw (le-ltb n (pointsOf (d .grid)) (rw (sym same) few))), inl refl)
+          (refusal Why.NoSuchPoint 0, placed-as {r = refusal Why.NoSuchPoint 0} about asked-point said (rw (le-ltb n (pointsOf (d .grid)) (rw (sym same) few))), inl refl)
+
+  -- 3 to 7: a fault of the tiling comes behind 1 alone.
+  faulted : (q : Question) {why : declaredWhy.Why} {place : ℕ} → Fault file why place → Caught file q (refusal why place)
+  faulted q f =
+      split (ltb largest (length file))
+      (λ long. (refusal Why.TooLong 0, file-refused q (Refusals.Refused.too-long (ltb-true _ _ long)), inr (omega (arith, in-order, tiling-step (f .faulty)))))
+      (λ short. (_, file-refused q (Refusals.Refused.message (omega (arith, f .inside)) (ltb-false _ _ short) (f .before) (f .inside) (f .faulty)), inl refl))
 
   -- Every refusal that applies is caught.
-  caught : {q : Question} {s : Refusal} → Applies file q s → Caught file q s
-  caught {q} (Spec.too-long h) = (_, file-refused q (Refusals.Refused.too-long h), inl refl)
-  caught {q} (Spec.empty h) = (_, file-refused q (Refusals.Refused.empty h), inl refl)
-  caught {q} {s} (Spec.tiling {p} before inside faulty) =
-      split (ltb largest (length file))
-      (λ long. (refusal Why.TooLong 0, file-refused q (Refusals.Refused.too-long (ltb-true _ _ long)), inr (omega (arith, in-order, tiling-step faulty))))
-      (λ short. (s, file-refused q (Refusals.Refused.message (omega arith) (ltb-false _ _ short) before inside faulty), inl refl))
-  caught (Spec.no-such-field {k} {m} {fs} names accepted few) =
-      (refusal Why.NoSuchField 0, asked names (no-field k fs (tiles-so file m fs .1 accepted) few), inl refl)
-  caught (Spec.section-1 about fails) = caught-by about (caught-1 file _ fails)
-  caught (Spec.section-3 about fails) = caught-by about (caught-3 file _ fails)
-  caught (Spec.section-4 about of-one fails) = caught-by about (caught-4 file _ of-one fails)
-  caught (Spec.section-5 about fails) = caught-by about (caught-5 file _ fails)
-  caught (Spec.section-6 about of-three of-five fails) = caught-by about (caught-6 file _ of-three of-five fails)
-  caught (Spec.section-7 about of-five fails) = caught-by about (caught-7 file _ of-five fails)
-  caught (Spec.no-room {start = start} {values = values} {presence = presence} about lent of-three fits) = full start values presence about lent of-three fits
-  caught (Spec.out-of-range {start = start} {values = values} {presence = presence} {m = m} about lent of-five among outside) = out start values presence m about lent of-five among outside
-  caught (Spec.no-such-point about asked-point of-three few) = beyond about asked-point of-three few
+  caught : {q : Question} {m p : ℕ} → Applies file q m p → CaughtTold file q m p
+  caught {q} (Spec.too-long h) = told file q (refusal Why.TooLong 0) (refusal Why.TooLong 0, file-refused q (Refusals.Refused.too-long h), inl refl)
+  caught {q} (Spec.empty h) = told file q (refusal Why.Empty 0) (refusal Why.Empty 0, file-refused q (Refusals.Refused.empty h), inl refl)
+  caught {q} (Spec.cut {p} f) = told file q (refusal Why.Cut p) (faulted q f)
+  caught {q} (Spec.not-grib-2 {p} f) = told file q (refusal Why.NotGrib2 p) (faulted q f)
+  caught {q} (Spec.bad-length {p} f) = told file q (refusal Why.BadLength p) (faulted q f)
+  caught {q} (Spec.out-of-place {p} f) = told file q (refusal Why.OutOfPlace p) (faulted q f)
+  caught {q} (Spec.no-end {p} f) = told file q (refusal Why.NoEnd p) (faulted q f)
+  caught {q} (Spec.no-such-field {k} {m} {fs} names accepted few) =
+      told file q (refusal Why.NoSuchField 0) (refusal Why.NoSuchField 0, asked names (no-field k fs (tiles-so file m fs .1 accepted) few), inl refl)
+  caught {q} (Spec.section-1 {l} about fails) = told file q (refusal Why.BadIdentification (l .starts .one .0)) (caught-by about (caught-1 file l fails))
+  caught {q} (Spec.section-3 {l} about fails) = told file q (refusal Why.BadGrid (l .starts .three .0)) (caught-by about (caught-3 file l fails))
+  caught {q} (Spec.section-4 {l} about of-one fails) = told file q (refusal Why.BadProduct (l .starts .four .0)) (caught-by about (caught-4 file l of-one fails))
+  caught {q} (Spec.section-5 {l} about fails) = told file q (refusal Why.BadRepresentation (l .starts .five .0)) (caught-by about (caught-5 file l fails))
+  caught {q} (Spec.section-6 {l} about of-three of-five fails) = told file q (refusal Why.BadBitmap (l .starts .six .0)) (caught-by about (caught-6 file l of-three of-five fails))
+  caught {q} (Spec.section-7 {l} about of-five fails) = told file q (refusal Why.BadPacking (l .starts .seven .0)) (caught-by about (caught-7 file l of-five fails))
+  caught {q} (Spec.no-room {start = start} {values = values} {presence = presence} about lent of-three fits) = told file q (refusal Why.NoRoom 0) (full start values presence about lent of-three fits)
+  caught {q} (Spec.out-of-range {l} {start = start} {values = values} {presence = presence} {m = m} about lent of-five among outside) =
+      told file q (refusal Why.ValueOutOfRange (l .starts .seven .0)) (out start values presence m about lent of-five among outside)
+  caught {q} (Spec.no-such-point about asked-point of-three few) = told file q (refusal Why.NoSuchPoint 0) (beyond about asked-point of-three few)
 
   -- A question is refused only by a refusal that applies: of the file, and of the field that is asked about.
-  file-applies : {q : Question} {r : Refusal} → Refusals.Refused file r → Applies file q r
+  abbrev AppliesBy : Question → Refusal → Type 0
+  AppliesBy q r = Applies file q (numberOf (r .why)) (r .place .0)
+
+  heading-applies : {q : Question} {p : ℕ} {why : declaredWhy.Why} → Heads.Heads file p (Header.Bad why) → Fault file why p → AppliesBy q (refusal why p)
+  heading-applies (Heads.few h) f = Spec.cut f
+  heading-applies (Heads.strange h opens) f = Spec.not-grib-2 f
+  heading-applies (Heads.short opens h) f = Spec.bad-length f
+  heading-applies (Heads.long opens least h) f = Spec.cut f
+  heading-applies (Heads.endless holds h) f = Spec.no-end f
+
+  section-applies : {q : Question} {p e n : ℕ} {why : declaredWhy.Why} → Stands.Stands file p e n (Step.Bad why) → Fault file why p → AppliesBy q (refusal why p)
+  section-applies (Stands.unfinished end after) f = Spec.out-of-place f
+  section-applies (Stands.misfit inside fits) f = Spec.bad-length f
+  section-applies (Stands.strange fits after) f = Spec.out-of-place f
+
+  fault-applies : {q : Question} {p : ℕ} {r : Refusal} → Before file p → p < length file → Faulty file p r → AppliesBy q r
+  fault-applies before inside (Refusals.Faulty.heading heads) = heading-applies heads (record { p = _; before = before; inside = inside; faulty = Refusals.Faulty.heading heads })
+  fault-applies before inside (Refusals.Faulty.section heads passed stands) =
+      section-applies stands (record { p = _; before = before; inside = inside; faulty = Refusals.Faulty.section heads passed stands })
+
+  file-applies : {q : Question} {r : Refusal} → Refusals.Refused file r → AppliesBy q r
   file-applies (Refusals.Refused.too-long h) = Spec.too-long h
   file-applies (Refusals.Refused.empty h) = Spec.empty h
-  file-applies (Refusals.Refused.message some few before inside faulty) = Spec.tiling before inside faulty
+  file-applies (Refusals.Refused.message some few before inside faulty) = fault-applies before inside faulty
 
   -- Where a field is described, it lies somewhere, and its sections are taken.
   pub described-at : (k : ℕ) {d : Description} → Describe.describe file k ≡ Described.As d → (l : Located) × FieldAt file k l × Judged file l d
@@ -363,10 +404,10 @@ module _ (file : List ℕ) where
       (known .0, record { messages = at .messages; fields = at .fields; accepted = tiles-so file (at .messages) (at .fields) .0 (at .tiles); below = at .below; lies = at .lies }, known .2)
 
   abbrev Explained : Question → Described → Type 0
-  Explained q a = (r : Refusal) → a ≡ Described.Refused r → Applies file q r
+  Explained q a = (r : Refusal) → a ≡ Described.Refused r → AppliesBy q r
 
-  explain : {q : Question} {t : Refusal} → Applies file q t → Explained q (Described.Refused t)
-  explain {q} {t} applies r same = let alike : t ≡ r = cc in subst (Applies file q) alike applies
+  explain : {q : Question} {t : Refusal} → AppliesBy q t → Explained q (Described.Refused t)
+  explain {q} {t} applies r same = let alike : t ≡ r = cc in subst (AppliesBy q) alike applies
 
   module _ {q : Question} {k : ℕ} (names : Names q k) where
     explained : {l : Located} → About file q l → Explained q (describedAt file l)
@@ -429,58 +470,65 @@ module _ (file : List ℕ) where
           let holds : hasRoom start (pointsOf (d .grid)) values presence ≡ true = rw (one, other) in
           apart cc
 
-  applies-of : {r : Refusal} (q : Question) → verdict file q ≡ refused r → Applies file q r
-  applies-of {r} check e = by (Tiling.check file) refl e
+  -- A refusal that is told by its number and its place.
+  told-applies : {q : Question} (f : Refusal) {m p : ℕ} → refusedBy f ≡ refused m p → AppliesBy q f → Applies file q m p
+  told-applies {q} f {m} e applies = let same = one-verdict e in subst (Applies file q m) (same .1) (subst (λ (n : ℕ). Applies file q n (f .place .0)) (same .0) applies)
+
+  applies-of : {m p : ℕ} (q : Question) → verdict file q ≡ refused m p → Applies file q m p
+  applies-of {m} {p} check e = by (Tiling.check file) refl e
     where
-      by : (a : Checked) → Tiling.check file ≡ a → ofChecked a ≡ refused r → Applies file check r
-      by (Checked.Counts m n) said e = clash-verdict e
-      by (Checked.Refused f) said e = let same : f ≡ r = one-verdict e in subst (Applies file check) same (file-applies (check-refuses file f .0 said))
-  applies-of {r} (describe k) e = by (Describe.describe file k) refl e
+      by : (a : Checked) → Tiling.check file ≡ a → ofChecked a ≡ refused m p → Applies file check m p
+      by (Checked.Counts messages fields) said e = clash-verdict e
+      by (Checked.Refused f) said e = told-applies f e (file-applies (check-refuses file f .0 said))
+  applies-of {m} {p} (describe k) e = by (Describe.describe file k) refl e
     where
-      by : (a : Described) → Describe.describe file k ≡ a → ofDescribed a ≡ refused r → Applies file (describe k) r
+      by : (a : Described) → Describe.describe file k ≡ a → ofDescribed a ≡ refused m p → Applies file (describe k) m p
       by (Described.As d) said e = clash-verdict e
-      by (Described.Refused f) said e = let same : f ≡ r = one-verdict e in described-applies describes r (said ∙ ap Described.Refused same)
-  applies-of {r} (place k n) e = by (judge file k (Asks.Point n)) refl e
+      by (Described.Refused f) said e = told-applies f e (described-applies describes f said)
+  applies-of {m} {p} (place k n) e = by (judge file k (Asks.Point n)) refl e
     where
-      by : (a : Described) → judge file k (Asks.Point n) ≡ a → ofPlaced (placedBy n a) ≡ refused r → Applies file (place k n) r
+      by : (a : Described) → judge file k (Asks.Point n) ≡ a → ofPlaced (placedBy n a) ≡ refused m p → Applies file (place k n) m p
       by (Described.As d) said e = clash-verdict e
-      by (Described.Refused f) said e = let same : f ≡ r = one-verdict e in judged-applies places (Asks.Point n) (point-applies k n) r (said ∙ ap Described.Refused same)
-  applies-of {r} (decode k start values presence) e = by (judge file k (Asks.Values start values presence)) refl e
+      by (Described.Refused f) said e = told-applies f e (judged-applies places (Asks.Point n) (point-applies k n) f said)
+  applies-of {m} {p} (decode k start values presence) e = by (judge file k (Asks.Values start values presence)) refl e
     where
-      by : (a : Described) → judge file k (Asks.Values start values presence) ≡ a → ofDecoded (answerOf (outcomeBy file a)) ≡ refused r → Applies file (decode k start values presence) r
+      by : (a : Described) → judge file k (Asks.Values start values presence) ≡ a → ofDecoded (answerOf (outcomeBy file a)) ≡ refused m p → Applies file (decode k start values presence) m p
       by (Described.As d) said e = clash-verdict e
-      by (Described.Refused f) said e = let same : f ≡ r = one-verdict e in judged-applies decodes (Asks.Values start values presence) (stretch-applies k start values presence) r (said ∙ ap Described.Refused same)
+      by (Described.Refused f) said e = told-applies f e (judged-applies decodes (Asks.Values start values presence) (stretch-applies k start values presence) f said)
 
 pub demand-1 : (file : List ℕ) → Demand1 file
 demand-1 file =
     record {
-      refuses = λ q r. (λ e. record { applies = applies-of file q e; foremost = λ s applies. foremost q e (caught file applies) }, first-refuses q r);
-      answers = λ q. (λ e r applies. none-applies q e (caught file applies), unless q);
-      one = λ q r s first second. let given = first-refuses q r first in let given′ = first-refuses q s second in one-verdict (sym given ∙ given′);
-      untouched = λ k start values presence r e. kept start values presence (outcome file k start (length values) (length presence)) e;
+      refuses = λ q n p. (λ e. record { applies = applies-of file q e; foremost = λ m s applies. foremost q e (caught file applies) }, first-refuses q n p);
+      answers = λ q. (λ e n p applies. none-applies q e (caught file applies), unless q);
+      one = λ q n p m s first second. one-verdict (sym (first-refuses q n p first) ∙ first-refuses q m s second);
+      untouched = λ k start values presence n p e. kept start values presence (outcome file k start (length values) (length presence)) e;
     }
   where
-    foremost : (q : Question) {r s : Refusal} → verdict file q ≡ refused r → Caught file q s → rank r ≤ rank s
-    foremost q {r} {s} e (f, given, inl is) = let same : r ≡ s = one-verdict (sym e ∙ given) ∙ is in rw same (omega arith)
-    foremost q {r} {s} e (f, given, inr before) = let same : r ≡ f = one-verdict (sym e ∙ given) in rw same (omega (arith, before))
+    foremost : (q : Question) {n p m s : ℕ} → verdict file q ≡ refused n p → CaughtTold file q m s → rank n ≤ rank m
+    foremost q {n} {p} {m} e (f, given, inl is) = let same : n ≡ m = one-verdict (sym e ∙ given) .0 ∙ is .0 in rw same (omega arith)
+    foremost q {n} {p} {m} e (f, given, inr before) = let same : n ≡ numberOf (f .why) = one-verdict (sym e ∙ given) .0 in rw same (omega (arith, before))
 
-    first-refuses : (q : Question) (r : Refusal) → First file q r → verdict file q ≡ refused r
-    first-refuses q r first = by (caught file (first .applies))
+    first-refuses : (q : Question) (n p : ℕ) → First file q n p → verdict file q ≡ refused n p
+    first-refuses q n p first = by (caught file (first .applies))
       where
-        by : Caught file q r → verdict file q ≡ refused r
-        by (f, given, inl is) = rw is at given
-        by (f, given, inr before) = absurd (omega (arith, before, first .foremost f (applies-of file q given)))
+        by : CaughtTold file q n p → verdict file q ≡ refused n p
+        by (f, given, inl is) = rw (is .0, is .1) at given
+        by (f, given, inr before) = absurd (omega (arith, before, first .foremost _ _ (applies-of file q given)))
 
-    none-applies : (q : Question) {s : Refusal} → verdict file q ≡ answered → Caught file q s → ⊥
+    none-applies : (q : Question) {n p : ℕ} → verdict file q ≡ answered → CaughtTold file q n p → ⊥
     none-applies q e (f, given, o) = clash-verdict (sym e ∙ given)
 
-    unless : (q : Question) → ((r : Refusal) → Applies file q r → ⊥) → verdict file q ≡ answered
+    unless : (q : Question) → ((n p : ℕ) → Applies file q n p → ⊥) → verdict file q ≡ answered
     unless q none = by (verdict file q) refl
       where
         by : (v : Verdict) → verdict file q ≡ v → v ≡ answered
         by answered e = refl
-        by (refused r) e = absurd (none r (applies-of file q e))
+        by (refused n p) e = absurd (none n p (applies-of file q e))
 
-    kept : (start : ℕ) (values : List Float) (presence : List ℕ) {r : Refusal} (o : Outcome) → ofDecoded (answerOf o) ≡ refused r → (valuesAfter start values o ≡ values) × (presenceAfter start presence o ≡ presence)
+    kept :
+        (start : ℕ) (values : List Float) (presence : List ℕ) {n p : ℕ} (o : Outcome) →
+        ofDecoded (answerOf o) ≡ refused n p →
+        (valuesAfter start values o ≡ values) × (presenceAfter start presence o ≡ presence)
     kept start values presence (gives points doubles marks) e = clash-verdict e
     kept start values presence (refuses f) e = (refl, refl)

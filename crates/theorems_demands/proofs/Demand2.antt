@@ -37,7 +37,7 @@ use Rattle.question_place.specs.Place.{placedBy, place}
 use Rattle.question_decode.specs.declared.Decoded.the-variants as Decoded
 use Rattle.question_decode.specs.Decoding as Decoding
 use Rattle.question_decode.specs.Decoding.{packingBy, presentOf, rankOf, doubleOf, Outcome, outcome, outcomeBy, answerOf, valuesAfter, presenceAfter}
-use Rattle.theorems_demands.specs.Demand2.{Present, Point, Call, answerTo, Decodes, Demand2}
+use Rattle.theorems_demands.specs.Demand2.{Present, Point, Call, leftBehind, answerTo, Decodes, Demand2}
 use Rattle.theorems_demands.proofs.Demand1.{described-is, described-at}
 
 -- An answer is one alone.
@@ -89,13 +89,13 @@ module _ (file : List ℕ) (d : Description) (known : Known file d) (all : isDec
 
 module _ (file : List ℕ) (c : Call) where
   abbrev here : Outcome
-  here = outcome file (c .k) (c .start) (length (c .values)) (length (c .presence))
+  here = outcome file (c .k) (c .start) (length (c .before .values)) (length (c .before .presence))
 
   -- The values of a field are given where it is described, there is room, and each of its integers is in its range.
   module _
       (d : Description)
       (said : describe file (c .k) ≡ Described.As d)
-      (room : hasRoom (c .start) (pointsOf (d .grid)) (length (c .values)) (length (c .presence)) ≡ true)
+      (room : hasRoom (c .start) (pointsOf (d .grid)) (length (c .before .values)) (length (c .before .presence)) ≡ true)
       (all : isDecodable file d ≡ true) where
     abbrev points : ℕ
     points = pointsOf (d .grid)
@@ -103,35 +103,35 @@ module _ (file : List ℕ) (c : Call) where
     given : here ≡ Decoding.gives points (row (doubleOf file d) points) (row (presentOf file d) points)
     given = rw (said, room, all)
 
-    fit : (c .start + points ≤ length (c .values)) × (c .start + points ≤ length (c .presence))
-    fit = room-fits (c .start) points (length (c .values)) (length (c .presence)) room
+    fit : (c .start + points ≤ length (c .before .values)) × (c .start + points ≤ length (c .before .presence))
+    fit = room-fits (c .start) points (length (c .before .values)) (length (c .before .presence)) room
 
-    value-is : valuesAfter (c .start) (c .values) here ≡ laid (c .values) (c .start) (row (doubleOf file d) points)
-    value-is = ap (valuesAfter (c .start) (c .values)) given
+    value-is : valuesAfter (c .start) (c .before .values) here ≡ laid (c .before .values) (c .start) (row (doubleOf file d) points)
+    value-is = ap (valuesAfter (c .start) (c .before .values)) given
 
-    mark-is : presenceAfter (c .start) (c .presence) here ≡ laid (c .presence) (c .start) (row (presentOf file d) points)
-    mark-is = ap (presenceAfter (c .start) (c .presence)) given
+    mark-is : presenceAfter (c .start) (c .before .presence) here ≡ laid (c .before .presence) (c .start) (row (presentOf file d) points)
+    mark-is = ap (presenceAfter (c .start) (c .before .presence)) given
 
-    decodes-met : Decodes file c d
+    decodes-met : Decodes file c (leftBehind file c) d
     decodes-met =
         record {
-          describes = said;
+          describes = described-at file (c .k) said;
           fits = fit;
           points =
               λ i h.
-              rw (value-is, mark-is, laid-within (c .values) (c .start) (doubleOf file d) points nan (fit .0) i h, laid-within (c .presence) (c .start) (presentOf file d) points 0 (fit .1) i h)
+              rw (value-is, mark-is, laid-within (c .before .values) (c .start) (doubleOf file d) points nan (fit .0) i h, laid-within (c .before .presence) (c .start) (presentOf file d) points 0 (fit .1) i h)
               (point-met file d (c .k, said) all i h);
-          before = λ i h. rw (value-is, mark-is) (laid-before (c .values) (c .start) (doubleOf file d) points nan (fit .0) i h, laid-before (c .presence) (c .start) (presentOf file d) points 0 (fit .1) i h);
-          behind = λ i h. rw (value-is, mark-is) (laid-behind (c .values) (c .start) (doubleOf file d) points nan (fit .0) i h, laid-behind (c .presence) (c .start) (presentOf file d) points 0 (fit .1) i h);
+          before = λ i h. rw (value-is, mark-is) (laid-before (c .before .values) (c .start) (doubleOf file d) points nan (fit .0) i h, laid-before (c .before .presence) (c .start) (presentOf file d) points 0 (fit .1) i h);
+          behind = λ i h. rw (value-is, mark-is) (laid-behind (c .before .values) (c .start) (doubleOf file d) points nan (fit .0) i h, laid-behind (c .before .presence) (c .start) (presentOf file d) points 0 (fit .1) i h);
         }
 
   -- A call that answers with a count has decoded the field.
-  pub decoded : (n : ℕ) → answerTo file c ≡ Decoded.Points n → (d : Description) × Decodes file c d × (pointsOf (d .grid) ≡ n)
-  decoded n = by (judge file (c .k) (Asks.Values (c .start) (length (c .values)) (length (c .presence)))) refl
+  pub decoded : (n : ℕ) → answerTo file c ≡ Decoded.Points n → (d : Description) × Decodes file c (leftBehind file c) d × (pointsOf (d .grid) ≡ n)
+  decoded n = by (judge file (c .k) (Asks.Values (c .start) (length (c .before .values)) (length (c .before .presence)))) refl
     where
-      by : (a : Described) → judge file (c .k) (Asks.Values (c .start) (length (c .values)) (length (c .presence))) ≡ a → answerOf (outcomeBy file a) ≡ Decoded.Points n → (d : Description) × Decodes file c d × (pointsOf (d .grid) ≡ n)
+      by : (a : Described) → judge file (c .k) (Asks.Values (c .start) (length (c .before .values)) (length (c .before .presence))) ≡ a → answerOf (outcomeBy file a) ≡ Decoded.Points n → (d : Description) × Decodes file c (leftBehind file c) d × (pointsOf (d .grid) ≡ n)
       by (Described.As d) said e =
-          let known = judged-values file (c .k) (c .start) (length (c .values)) (length (c .presence)) said in
+          let known = judged-values file (c .k) (c .start) (length (c .before .values)) (length (c .before .presence)) said in
           (d, decodes-met d (known .0) (known .1) (known .2), one-count e)
       by (Described.Refused r) said e = apart cc
 

@@ -12,10 +12,15 @@ use Rattle.octets.specs.declared.Signed.{Signed}
 use Rattle.octets.specs.Numbers.{whole, wholeOf}
 use Rattle.octets.proofs.Cases.{apart, split}
 use Rattle.refusals.specs.declared.Refusal.{Refusal}
+use Rattle.refusals.specs.declared.Why as declaredWhy
+use Rattle.refusals.specs.declared.Why.the-variants as Why
+use Rattle.refusals.specs.Refusals.{refusal, numberOf}
+use Rattle.refusals.proofs.Laws.{same-number}
 use Rattle.doubles.specs.declared.Rebuilt.the-variants as Rebuilt
 use Rattle.doubles.specs.Doubles.{valueOf, isInRange, isRebuildable, notRebuildable, rebuildOne}
 use Rattle.theorems_bound.specs.Bound.{exactS, Meets}
 use Rattle.theorems_bound.proofs.Meets.{rebuilt-meets, answered-in-limits}
+use Rattle.theorems_demands.specs.Questions.{refused, refusedBy}
 use Rattle.theorems_demands.specs.Rebuild.{Within, Rebuilds}
 use Rattle.theorems_demands.proofs.Demand3.{one-integer}
 
@@ -28,6 +33,13 @@ one-double e = cc
 
 one-refused : {f g : Refusal} → Rebuilt.Refused f ≡ Rebuilt.Refused g → f ≡ g
 one-refused e = cc
+
+-- A refusal that is told as 19 at place 0 is the one of this question.
+is-nineteen : (f : Refusal) → refusedBy f ≡ refused 19 0 → f ≡ notRebuildable
+is-nineteen f e =
+    let number : numberOf (f .why) ≡ 19 = cc in
+    let place : f .place .0 ≡ 0 = cc in
+    ap (λ (why : declaredWhy.Why). refusal why (f .place .0)) (same-number (f .why) Why.NotRebuildable number) ∙ ap (refusal Why.NotRebuildable) place
 
 -- A test that holds is true.
 is-true : (b : Bool) → T b → b ≡ true
@@ -61,7 +73,7 @@ module _ (r : ℕ) (e d x : Signed) where
         answers = λ v. (answered v, λ h. rw (passed (h .0) (h .1)) (ap Rebuilt.Double (ap (valueOf r e d) (sized (x .negative) (x .size) (h .0) (h .1 .0)) ∙ sym (h .2))));
         meets = λ v n given is. let h = answered v given in let same : h .0 ≡ n = one-integer (sym (h .1 .0) ∙ is) in
             subst (λ (m : ℕ). Meets (d .negative) (d .size) (exactS r e m) v) same (subst (Meets _ _ _) (sym (h .2)) (rebuilt-meets r e d (h .0) (h .1 .1)));
-        refuses = λ f. (refused f, λ h. by-test (h .1) ∙ ap Rebuilt.Refused (sym (h .0)));
+        refuses = λ f. (refuses-by f, λ h. by-test (h .1) ∙ ap Rebuilt.Refused (sym (is-nineteen f (h .0))));
       }
     where
       answered : (v : Float) → rebuildOne r e d x ≡ Rebuilt.Double v → (n : ℕ) × Within r e d x n × (v ≡ valueOf r e d n)
@@ -73,8 +85,8 @@ module _ (r : ℕ) (e d x : Signed) where
       by-test : ((n : ℕ) → Within r e d x n → ⊥) → rebuildOne r e d x ≡ Rebuilt.Refused notRebuildable
       by-test none = split (isRebuildable r e d x) (λ holds. absurd (none (x .size) (within-of holds))) (λ fails. rw fails)
 
-      refused : (f : Refusal) → rebuildOne r e d x ≡ Rebuilt.Refused f → (f ≡ notRebuildable) × ((n : ℕ) → Within r e d x n → ⊥)
-      refused f given =
+      refuses-by : (f : Refusal) → rebuildOne r e d x ≡ Rebuilt.Refused f → (refusedBy f ≡ refused 19 0) × ((n : ℕ) → Within r e d x n → ⊥)
+      refuses-by f given =
           split (isRebuildable r e d x)
           (λ holds. clash-rebuilt (rw holds at given))
-          (λ fails. (sym (one-refused (rw fails at given)), λ n within. let holds = passed n within in apart cc))
+          (λ fails. (ap refusedBy (sym (one-refused (rw fails at given))), λ n within. let holds = passed n within in apart cc))

@@ -7,7 +7,7 @@ use mathlib.Core.List.{List}
 use mathlib.Core.Logic.{_↔_}
 use lib.ListN.{length, getD}
 use lib.Ieee.{Float}
-use Rattle.refusals.specs.declared.Refusal.{Refusal}
+use Rattle.refusals.specs.declared.Why as declaredWhy
 use Rattle.refusals.specs.declared.Why.the-variants as Why
 use Rattle.refusals.specs.Refusals.{refusal, rank}
 use Rattle.tiling_sections.specs.declared.Located.{Located}
@@ -58,52 +58,63 @@ pub data AsksPoint : Question → ℕ → Type 0 where
 pub data Lends : Question → ℕ → ℕ → ℕ → Type 0 where
   lends : {k start values presence : ℕ} → Lends (decode k start values presence) start values presence
 
--- Document 01, "Refusals by number": the condition under which each refusal applies to a question, and its place. Each is stated for itself, whatever else
--- is wrong: where a section cannot be judged without what another says, that one is taken.
-pub data Applies (file : List ℕ) (q : Question) : Refusal → Type 0 where
-  -- 1 and 2: the length of the file.
-  too-long : largest < length file → Applies file q (refusal Why.TooLong 0)
-  empty : length file ≡ 0 → Applies file q (refusal Why.Empty 0)
-  -- 3 to 7: messages tile the file up to p, and what stands at p is none. Its first fault, in the order of the file, is given.
-  tiling : {p : ℕ} {r : Refusal} → Before file p → p < length file → Faulty file p r → Applies file q r
-  -- 8: the file is accepted, and has no field k.
-  no-such-field : {k m : ℕ} {fs : List Located} → Names q k → Accepted file m fs → length fs ≤ k → Applies file q (refusal Why.NoSuchField 0)
-  -- 9 and 10: section 1 or 3 in force for the field is not taken.
-  section-1 : {l : Located} → About file q l → identificationOf file l ≡ Identified.NotTaken → Applies file q (refusal Why.BadIdentification (l .starts .one .0))
-  section-3 : {l : Located} → About file q l → gridOf file l ≡ Gridded.NotTaken → Applies file q (refusal Why.BadGrid (l .starts .three .0))
-  -- 11: section 4 is not taken, with the reference time of section 1.
+-- The first fault in the order of the file: messages tile it up to p, and what stands there is none.
+pub record Fault (file : List ℕ) (why : declaredWhy.Why) (place : ℕ) : Type 0 where
+  pub p : ℕ
+  pub before : Before file p
+  pub inside : p < length file
+  pub faulty : Faulty file p (refusal why place)
+
+-- Document 01, "Refusals by number": the condition under which the refusal of a number applies to a question, and its place. Each is stated for itself,
+-- whatever else is wrong: where a section cannot be judged without what another says, that one is taken.
+pub data Applies (file : List ℕ) (q : Question) : (number place : ℕ) → Type 0 where
+  -- The length of the file.
+  too-long : largest < length file → Applies file q 1 0
+  empty : length file ≡ 0 → Applies file q 2 0
+  -- The tiling: the place is that of the message, of the section, or of "7777" where a field is not finished.
+  cut : {p : ℕ} → Fault file Why.Cut p → Applies file q 3 p
+  not-grib-2 : {p : ℕ} → Fault file Why.NotGrib2 p → Applies file q 4 p
+  bad-length : {p : ℕ} → Fault file Why.BadLength p → Applies file q 5 p
+  out-of-place : {p : ℕ} → Fault file Why.OutOfPlace p → Applies file q 6 p
+  no-end : {p : ℕ} → Fault file Why.NoEnd p → Applies file q 7 p
+  -- The file is accepted, and has no field k.
+  no-such-field : {k m : ℕ} {fs : List Located} → Names q k → Accepted file m fs → length fs ≤ k → Applies file q 8 0
+  -- Section 1 or 3 in force for the field is not taken.
+  section-1 : {l : Located} → About file q l → identificationOf file l ≡ Identified.NotTaken → Applies file q 9 (l .starts .one .0)
+  section-3 : {l : Located} → About file q l → gridOf file l ≡ Gridded.NotTaken → Applies file q 10 (l .starts .three .0)
+  -- Section 4 is not taken, with the reference time of section 1.
   section-4 :
       {l : Located} {i : Identification} →
       About file q l →
       identificationOf file l ≡ Identified.As i →
       productOf file l (i .reference) ≡ Defined.NotTaken →
-      Applies file q (refusal Why.BadProduct (l .starts .four .0))
-  -- 12: section 5 is not taken.
-  section-5 : {l : Located} → About file q l → representationOf file l ≡ Represented.NotTaken → Applies file q (refusal Why.BadRepresentation (l .starts .five .0))
-  -- 13: section 6 is not taken, with the points of section 3 and the N of section 5.
+      Applies file q 11 (l .starts .four .0)
+  -- Section 5 is not taken.
+  section-5 : {l : Located} → About file q l → representationOf file l ≡ Represented.NotTaken → Applies file q 12 (l .starts .five .0)
+  -- Section 6 is not taken, with the points of section 3 and the N of section 5.
   section-6 :
       {l : Located} {g : Grid} {r : Representation} →
       About file q l →
       gridOf file l ≡ Gridded.On g →
       representationOf file l ≡ Represented.By r →
       presenceOf file l (pointsOf g) (r .n) ≡ Marked.NotTaken →
-      Applies file q (refusal Why.BadBitmap (l .starts .six .0))
-  -- 14: the group plan or the length of section 7 is not as section 5 says.
+      Applies file q 13 (l .starts .six .0)
+  -- The group plan or the length of section 7 is not as section 5 says.
   section-7 :
       {l : Located} {r : Representation} →
       About file q l →
       representationOf file l ≡ Represented.By r →
       dataOf file l r ≡ Packed.NotTaken →
-      Applies file q (refusal Why.BadPacking (l .starts .seven .0))
-  -- 15: the points do not fit into both runs from the start index on.
+      Applies file q 14 (l .starts .seven .0)
+  -- The points do not fit into both runs from the start index on.
   no-room :
       {l : Located} {g : Grid} {start values presence : ℕ} →
       About file q l →
       Lends q start values presence →
       gridOf file l ≡ Gridded.On g →
       ((start + pointsOf g ≤ values) × (start + pointsOf g ≤ presence) → ⊥) →
-      Applies file q (refusal Why.NoRoom 0)
-  -- 16: one of the N integers X that decode rebuilds is below 0 or above 2,147,483,647.
+      Applies file q 15 0
+  -- One of the N integers X that decode rebuilds is below 0 or above 2,147,483,647.
   out-of-range :
       {l : Located} {r : Representation} {start values presence m : ℕ} →
       About file q l →
@@ -111,20 +122,20 @@ pub data Applies (file : List ℕ) (q : Question) : Refusal → Type 0 where
       representationOf file l ≡ Represented.By r →
       m < r .n →
       Doubles.isInRange (integerAt file (l .starts .seven .0) r m) ≡ false →
-      Applies file q (refusal Why.ValueOutOfRange (l .starts .seven .0))
-  -- 17: the field has no point n.
+      Applies file q 16 (l .starts .seven .0)
+  -- The field has no point n.
   no-such-point :
       {l : Located} {g : Grid} {n : ℕ} →
       About file q l →
       AsksPoint q n →
       gridOf file l ≡ Gridded.On g →
       pointsOf g ≤ n →
-      Applies file q (refusal Why.NoSuchPoint 0)
+      Applies file q 17 0
 
 -- The refusal that is given: it applies, and none of those that apply comes before it in the order of refusals.
-pub record First (file : List ℕ) (q : Question) (r : Refusal) : Type 0 where
-  pub applies : Applies file q r
-  pub foremost : (s : Refusal) → Applies file q s → rank r ≤ rank s
+pub record First (file : List ℕ) (q : Question) (number place : ℕ) : Type 0 where
+  pub applies : Applies file q number place
+  pub foremost : (other elsewhere : ℕ) → Applies file q other elsewhere → rank number ≤ rank other
 
 -- Decode leaves both runs as they were.
 abbrev pub Untouched : List ℕ → ℕ → ℕ → List Float → List ℕ → Type 0
@@ -133,13 +144,13 @@ Untouched file k start values presence = (valuesLeft file k start values presenc
 -- The demand, of every file and every question.
 pub record Demand1 (file : List ℕ) : Type 0 where
   -- A question is refused exactly by the first refusal that applies.
-  pub refuses : (q : Question) (r : Refusal) → (verdict file q ≡ refused r) ↔ First file q r
+  pub refuses : (q : Question) (number place : ℕ) → (verdict file q ≡ refused number place) ↔ First file q number place
   -- It is answered exactly where none applies.
-  pub answers : (q : Question) → (verdict file q ≡ answered) ↔ ((r : Refusal) → Applies file q r → ⊥)
+  pub answers : (q : Question) → (verdict file q ≡ answered) ↔ ((number place : ℕ) → Applies file q number place → ⊥)
   -- There is one first refusal at most.
-  pub one : (q : Question) (r s : Refusal) → First file q r → First file q s → r ≡ s
+  pub one : (q : Question) (number place other elsewhere : ℕ) → First file q number place → First file q other elsewhere → (number ≡ other) × (place ≡ elsewhere)
   -- A refused call alters no number in the runs, whatever they hold.
   pub untouched :
-      (k start : ℕ) (values : List Float) (presence : List ℕ) (r : Refusal) →
-      verdict file (decode k start (length values) (length presence)) ≡ refused r →
+      (k start : ℕ) (values : List Float) (presence : List ℕ) (number place : ℕ) →
+      verdict file (decode k start (length values) (length presence)) ≡ refused number place →
       Untouched file k start values presence

@@ -42,31 +42,45 @@ pub record Point (file : List ℕ) (d : Description) (i : ℕ) (written : Float)
   pub missing : mark ≡ 0 → written ≡ fin false 0 (pos 0)
   pub present : mark ≡ 1 → Present file d i written
 
+-- The two runs of decode, as they are at one time, and what stands at a place of each.
+pub record Runs : Type 0 where
+  pub values : List Float
+  pub presence : List ℕ
+
+abbrev pub valueIn : Runs → ℕ → Float
+valueIn runs i = getD (runs .values) i nan
+
+abbrev pub markIn : Runs → ℕ → ℕ
+markIn runs i = getD (runs .presence) i 0
+
 -- A call of decode, with what both runs hold before it.
 pub record Call : Type 0 where
   pub k : ℕ
   pub start : ℕ
-  pub values : List Float
-  pub presence : List ℕ
+  pub before : Runs
 
-module _ (file : List ℕ) (c : Call) where
-  -- Its answer, and what stands at a place of each run afterwards, by the contract of decode.
-  abbrev pub answerTo : declared.Decoded
-  answerTo = answer file (c .k) (c .start) (length (c .values)) (length (c .presence))
+-- It has decoded the field that d describes: the runs that it leaves hold the field's points from the start index on, and all else is as it was.
+module _ (file : List ℕ) (c : Call) (left : Runs) where
+  abbrev pub KeptAt : ℕ → Type 0
+  KeptAt i = (valueIn left i ≡ valueIn (c .before) i) × (markIn left i ≡ markIn (c .before) i)
 
-  abbrev pub valueAt : ℕ → Float
-  valueAt i = getD (valuesLeft file (c .k) (c .start) (c .values) (c .presence)) i nan
-
-  abbrev pub markAt : ℕ → ℕ
-  markAt i = getD (presenceLeft file (c .k) (c .start) (c .values) (c .presence)) i 0
-
-  -- It decodes the field that d describes: both runs hold its points from the start index on, and all else is as it was.
   pub record Decodes (d : Description) : Type 0 where
-    pub describes : describe file (c .k) ≡ Described.As d
-    pub fits : (c .start + pointsOf (d .grid) ≤ length (c .values)) × (c .start + pointsOf (d .grid) ≤ length (c .presence))
-    pub points : (i : ℕ) → i < pointsOf (d .grid) → Point file d i (valueAt (c .start + i)) (markAt (c .start + i))
-    pub before : (i : ℕ) → i < c .start → (valueAt i ≡ getD (c .values) i nan) × (markAt i ≡ getD (c .presence) i 0)
-    pub behind : (i : ℕ) → c .start + pointsOf (d .grid) ≤ i → (valueAt i ≡ getD (c .values) i nan) × (markAt i ≡ getD (c .presence) i 0)
+    pub describes : (l : Located) × FieldAt file (c .k) l × Judged file l d
+    pub fits : (c .start + pointsOf (d .grid) ≤ length (c .before .values)) × (c .start + pointsOf (d .grid) ≤ length (c .before .presence))
+    pub points : (i : ℕ) → i < pointsOf (d .grid) → Point file d i (valueIn left (c .start + i)) (markIn left (c .start + i))
+    pub before : (i : ℕ) → i < c .start → KeptAt i
+    pub behind : (i : ℕ) → c .start + pointsOf (d .grid) ≤ i → KeptAt i
+
+-- The answer of a call, and the runs that it leaves, by the contract of decode.
+abbrev pub answerTo : List ℕ → Call → declared.Decoded
+answerTo file c = answer file (c .k) (c .start) (length (c .before .values)) (length (c .before .presence))
+
+abbrev pub leftBehind : List ℕ → Call → Runs
+leftBehind file c =
+    record {
+      values = valuesLeft file (c .k) (c .start) (c .before .values) (c .before .presence);
+      presence = presenceLeft file (c .k) (c .start) (c .before .values) (c .before .presence);
+    }
 
 -- The demand, of every file.
 pub record Demand2 (file : List ℕ) : Type 0 where
@@ -81,4 +95,4 @@ pub record Demand2 (file : List ℕ) : Type 0 where
       (k n : ℕ) (p : Position) →
       (place file k n ≡ Placed.At p) ↔ ((d : Description) × (describe file k ≡ Described.As d) × (n < pointsOf (d .grid)) × (positionOf (d .grid) n ≡ p))
   -- A call of decode that answers with a count has decoded field k, whose points they are.
-  pub decodes : (c : Call) (n : ℕ) → answerTo file c ≡ Decoded.Points n → (d : Description) × Decodes file c d × (pointsOf (d .grid) ≡ n)
+  pub decodes : (c : Call) (n : ℕ) → answerTo file c ≡ Decoded.Points n → (d : Description) × Decodes file c (leftBehind file c) d × (pointsOf (d .grid) ≡ n)

@@ -1,32 +1,33 @@
 -- Demand 3: each double that decode writes for a point that is present lies within one part in 2^51 of the exact fraction (R + X 2^E) / 10^D. The statement
--- compares whole numbers: see Meets, Near, exactS and writtenV in bound/specs/Bound.antt.
+-- compares whole numbers: see Meets, Near, exactS and writtenV in theorems_bound/specs/Bound.antt.
 use Prim.Native.Nat.{ℕ, _+_, _<_}
 use mathlib.Core.Path.{_≡_}
 use mathlib.Core.List.{List}
 use lib.IntN.{pos}
+use lib.Ieee.{Float}
+use Rattle.section_3_geometry.specs.Positions.{pointsOf}
 use Rattle.theorems_bound.specs.Bound.{exactS, Meets, InLimits}
 use Rattle.question.specs.declared.Description.{Description}
-use Rattle.question.specs.declared.Described.the-variants as Described
-use Rattle.question.specs.Describe.{describe}
 use Rattle.question.specs.Judge.{integerOf}
 use Rattle.question_decode.specs.declared.Decoded.the-variants as Decoded
 use Rattle.question_decode.specs.Decoding.{rankOf}
-use Rattle.theorems_demands.specs.Demand2.{Call, answerTo, valueAt, markAt}
+use Rattle.theorems_demands.specs.Demand2.{Runs, valueIn, markIn, Call, Decodes, answerTo, leftBehind}
 
--- The double of a point that is present, with R, E and D as section 5 holds them and X by demand 2: they are in their limits, and the double is finite,
--- near, and zero where the fraction is.
-pub record RebuiltNear (file : List ℕ) (c : Call) (d : Description) (i x : ℕ) : Type 0 where
+-- The double that is written for a point that is present, with R, E and D as section 5 holds them and X by demand 2: they are in their limits, and the double
+-- is finite, near, and zero where the fraction is.
+pub record RebuiltNear (d : Description) (x : ℕ) (written : Float) : Type 0 where
   pub limits : InLimits (d .representation .r) (d .representation .e) (d .representation .d) x
-  pub meets : Meets (d .representation .d .negative) (d .representation .d .size) (exactS (d .representation .r) (d .representation .e) x) (valueAt file c (c .start + i))
+  pub meets : Meets (d .representation .d .negative) (d .representation .d .size) (exactS (d .representation .r) (d .representation .e) x) written
+
+-- So it is at each point that a call of decode has marked as present.
+abbrev pub AllNear : List ℕ → Call → Runs → Description → Type 0
+AllNear file c left d =
+    (i x : ℕ) →
+    i < pointsOf (d .grid) →
+    markIn left (c .start + i) ≡ 1 →
+    integerOf file d (rankOf file d i) ≡ pos x →
+    RebuiltNear d x (valueIn left (c .start + i))
 
 -- The demand, of every file.
 pub record Demand3 (file : List ℕ) : Type 0 where
-  pub near :
-      (c : Call) (n : ℕ) (d : Description) →
-      answerTo file c ≡ Decoded.Points n →
-      describe file (c .k) ≡ Described.As d →
-      (i x : ℕ) →
-      i < n →
-      markAt file c (c .start + i) ≡ 1 →
-      integerOf file d (rankOf file d i) ≡ pos x →
-      RebuiltNear file c d i x
+  pub near : (c : Call) (n : ℕ) (d : Description) → answerTo file c ≡ Decoded.Points n → Decodes file c (leftBehind file c) d → AllNear file c (leftBehind file c) d

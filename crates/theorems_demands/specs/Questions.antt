@@ -3,6 +3,7 @@
 use Prim.Native.Nat.{ℕ}
 use mathlib.Core.List.{List}
 use Rattle.refusals.specs.declared.Refusal.{Refusal}
+use Rattle.refusals.specs.Refusals.{numberOf}
 use Rattle.tiling.specs.declared.Checked.{Checked}
 use Rattle.tiling.specs.declared.Checked.the-variants as Checked
 use Rattle.tiling.specs.Tiling as Tiling
@@ -23,26 +24,29 @@ pub data Question : Type 0 where
   place : (k n : ℕ) → Question
   decode : (k start values presence : ℕ) → Question
 
--- What comes of a question: a full answer, or a refusal.
+-- What comes of a question: a full answer, or a refusal, which is told by its number and its place.
 pub data Verdict : Type 0 where
   answered : Verdict
-  refused : Refusal → Verdict
+  refused : (number place : ℕ) → Verdict
+
+abbrev pub refusedBy : Refusal → Verdict
+refusedBy r = refused (numberOf (r .why)) (r .place .0)
 
 abbrev pub ofChecked : Checked → Verdict
 ofChecked (Checked.Counts messages fields) = answered
-ofChecked (Checked.Refused r) = refused r
+ofChecked (Checked.Refused r) = refusedBy r
 
 abbrev pub ofDescribed : Described → Verdict
 ofDescribed (Described.As d) = answered
-ofDescribed (Described.Refused r) = refused r
+ofDescribed (Described.Refused r) = refusedBy r
 
 abbrev pub ofPlaced : Placed → Verdict
 ofPlaced (Placed.At p) = answered
-ofPlaced (Placed.Refused r) = refused r
+ofPlaced (Placed.Refused r) = refusedBy r
 
 abbrev pub ofDecoded : Decoded → Verdict
 ofDecoded (Decoded.Points n) = answered
-ofDecoded (Decoded.Refused r) = refused r
+ofDecoded (Decoded.Refused r) = refusedBy r
 
 abbrev pub verdict : List ℕ → Question → Verdict
 verdict file check = ofChecked (Tiling.check file)

@@ -7,11 +7,10 @@ use lib.Ieee.{Float}
 use Rattle.octets.specs.declared.Signed.{Signed}
 use Rattle.octets.specs.Numbers.{whole}
 use Rattle.refusals.specs.declared.Refusal.{Refusal}
-use Rattle.refusals.specs.declared.Why.the-variants as Why
-use Rattle.refusals.specs.Refusals.{refusal}
 use Rattle.doubles.specs.declared.Rebuilt.the-variants as Rebuilt
 use Rattle.doubles.specs.Doubles.{valueOf, rebuildOne}
 use Rattle.theorems_bound.specs.Bound.{exactS, Meets, InLimits}
+use Rattle.theorems_demands.specs.Questions.{refused, refusedBy}
 
 module _ (r : ℕ) (e d x : Signed) where
   -- X is the whole number n, and all four are in their limits.
@@ -23,4 +22,4 @@ module _ (r : ℕ) (e d x : Signed) where
     pub answers : (v : Float) → (rebuildOne r e d x ≡ Rebuilt.Double v) ↔ ((n : ℕ) × Within n × (v ≡ valueOf r e d n))
     pub meets : (v : Float) (n : ℕ) → rebuildOne r e d x ≡ Rebuilt.Double v → whole x ≡ pos n → Meets (d .negative) (d .size) (exactS r e n) v
     -- Past them it is refused by 19, at place 0, and by no other.
-    pub refuses : (f : Refusal) → (rebuildOne r e d x ≡ Rebuilt.Refused f) ↔ ((f ≡ refusal Why.NotRebuildable 0) × ((n : ℕ) → Within n → ⊥))
+    pub refuses : (f : Refusal) → (rebuildOne r e d x ≡ Rebuilt.Refused f) ↔ ((refusedBy f ≡ refused 19 0) × ((n : ℕ) → Within n → ⊥))
