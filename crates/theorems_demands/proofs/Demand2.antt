@@ -39,6 +39,7 @@ use Rattle.question_decode.specs.Decoding as Decoding
 use Rattle.question_decode.specs.Decoding.{packingBy, presentOf, rankOf, doubleOf, Outcome, outcome, outcomeBy, answerOf, valuesAfter, presenceAfter}
 use Rattle.theorems_demands.specs.Demand2.{Present, Point, Call, leftBehind, answerTo, Decodes, Demand2}
 use Rattle.theorems_demands.proofs.Demand1.{described-is, described-at}
+use Rattle.theorems_demands.proofs.Numbers.{in-numbers}
 
 -- An answer is one alone.
 one-count : {a b : ℕ} → Decoded.Points a ≡ Decoded.Points b → a ≡ b
@@ -149,6 +150,7 @@ demand-2 file =
       accepts = counts file;
       one = unique;
       describes = λ k d. (λ said. described-at file k said, λ h. described-is file (h .1) ∙ judged-described file (h .0) (h .2));
+      numbers = in-numbers file;
       places = λ k n p. (placed-is file k n p, λ h. rw (h .1, lt-ltb n (pointsOf (h .0 .grid)) (h .2)) (ap Placed.At (h .3)));
       decodes = decoded file;
     }

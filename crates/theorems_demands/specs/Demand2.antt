@@ -26,6 +26,7 @@ use Rattle.question_decode.specs.declared.Decoded as declared
 use Rattle.question_decode.specs.declared.Decoded.the-variants as Decoded
 use Rattle.question_decode.specs.Decoding.{presentOf, rankOf, answer, valuesLeft, presenceLeft}
 use Rattle.theorems_demands.specs.Demand1.{FieldAt}
+use Rattle.theorems_demands.specs.Numbers.{InNumbers}
 
 -- A point that is present: as many points are present before it as integers are packed before its own, which is the standard's X, in its range; and the
 -- double that is written is that of R, E, D and X.
@@ -90,6 +91,8 @@ pub record Demand2 (file : List ℕ) : Type 0 where
   pub one : {m m′ : ℕ} {fs fs′ : List Located} → Accepted file m fs → Accepted file m′ fs′ → (m ≡ m′) × (fs ≡ fs′)
   -- Field k is described as its sections in force say, exactly where each of them is taken.
   pub describes : (k : ℕ) (d : Description) → (describe file k ≡ Described.As d) ↔ ((l : Located) × FieldAt file k l × Judged file l d)
+  -- The cases of that description have the numbers that the sections' octets hold.
+  pub numbers : (l : Located) (d : Description) → Judged file l d → InNumbers file l d
   -- Point n lies where its row and its column put it.
   pub places :
       (k n : ℕ) (p : Position) →

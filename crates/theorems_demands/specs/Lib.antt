@@ -1,6 +1,7 @@
 -- What is said of the whole reader.
 pub mod Questions
 pub mod Demand1
+pub mod Numbers
 pub mod Demand2
 pub mod Demand3
 pub mod Rebuild

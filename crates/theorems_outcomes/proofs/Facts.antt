@@ -22,7 +22,7 @@ module _ {M : Type 1} (𝓤 : URA M) where
   infix 26 _⊢_
   infixr 35 _∗_
   -- Where each side tells a fact, what follows from both facts follows from both sides.
-  follows : {P Q : SProp 𝓤} {φ ψ χ : Type 0} → P ⊢ holds φ → Q ⊢ holds ψ → (φ → ψ → χ) → P ∗ Q ⊢ holds χ
+  pub follows : {P Q : SProp 𝓤} {φ ψ χ : Type 0} → P ⊢ holds φ → Q ⊢ holds ψ → (φ → ψ → χ) → P ∗ Q ⊢ holds χ
   follows {P} {Q} {φ} {ψ} {χ} first second both =
       fact-use 𝓤 φ (via 𝓤 P (fst∗ 𝓤 P Q) first) (λ x. fact-use 𝓤 ψ (via 𝓤 Q (snd∗ 𝓤 P Q) second) (λ y. factI 𝓤 χ (P ∗ Q) (both x y)))
 

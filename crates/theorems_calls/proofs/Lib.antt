@@ -1,0 +1,2 @@
+-- The proofs of what is promised to those who call the reader.
+pub mod Calls

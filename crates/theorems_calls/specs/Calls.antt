@@ -1,0 +1,120 @@
+-- The demands of the functions that users call, in the numbers that they are given: what C learns from the one number of skeptolyr_check and of
+-- skeptolyr_decode and from its two runs, and what the listing puts.
+use Prim.Native.Nat.{ℕ, suc, _+_, _*_, _^_, _≤_, _<_}
+use mathlib.Core.Path.{_≡_}
+use mathlib.Core.List.{List, [], _++_}
+use lib.Ieee.{Float}
+use lib.ListN.{length}
+use Rattle.tiling_sections.specs.declared.Located.{Located}
+use Rattle.theorems_grammar.specs.Grammar.{Accepted}
+use Rattle.section_3_geometry.specs.Positions.{pointsOf}
+use Rattle.question.specs.declared.Description.{Description}
+use Rattle.question.specs.Judged.{Judged}
+use Rattle.text.specs.Text.{ascii, decimal, Puts}
+use Rattle.listing_lines.specs.Lines.{fieldText}
+use Rattle.theorems_demands.specs.Questions.{Question, check, describe, decode}
+use Rattle.theorems_demands.specs.Demand1.{FieldAt, Applies, First}
+use Rattle.theorems_demands.specs.Demand2.{Runs, Call, Decodes, answerTo, leftBehind}
+use Rattle.theorems_demands.specs.Demand3.{AllNear}
+use Rattle.theorems_calls.specs.Promises.{Promises}
+use Rattle.tiling.specs.Tiling as Tiling
+use Rattle.tiling.proofs as tiling
+use Rattle.question.specs.Describe as Describe
+use Rattle.question.proofs as question
+use Rattle.question_place.specs.Place as Place
+use Rattle.question_place.proofs as question-place
+use Rattle.question_decode.proofs as question-decode
+use Rattle.doubles.specs.Doubles.{rebuildOne}
+use Rattle.doubles.proofs as doubles
+use Rattle.skeptolyr.proofs as skeptolyr
+use Rattle.listing_file.proofs as listing
+
+-- RULES, "What the reader takes": a refusal is 2^63 + number x 2^32 + place, from which number and place can be taken again. It is the first that applies.
+pub record Refuses (file : List ℕ) (q : Question) (code : ℕ) : Type 0 where
+  pub number : ℕ
+  pub place : ℕ
+  pub first : First file q number place
+  pub told : code ≡ 2 ^ 63 + number * 2 ^ 32 + place
+  pub fits : (number < 2 ^ 31) × (place < 2 ^ 32)
+
+-- A file that is accepted is messages x 2^32 + fields, and both can be taken again.
+pub record Accepts (file : List ℕ) (code : ℕ) : Type 0 where
+  pub messages : ℕ
+  pub fields : List Located
+  pub accepted : Accepted file messages fields
+  pub told : code ≡ messages * 2 ^ 32 + length fields
+  pub fits : (messages < 2 ^ 31) × (length fields < 2 ^ 32)
+
+-- What a call of skeptolyr_check has answered of a file. The top bit tells which it is.
+pub record Checks (file : List ℕ) (code : ℕ) : Type 0 where
+  pub refused : 2 ^ 63 ≤ code → Refuses file check code
+  pub accepted : code < 2 ^ 63 → Accepts file code
+
+abbrev pub decodeOf : Call → Question
+decodeOf c = decode (c .k) (c .start) (length (c .before .values)) (length (c .before .presence))
+
+-- What a call of skeptolyr_decode has answered, and the two runs that it has left.
+pub record DecodeKeeps (file : List ℕ) (c : Call) (code : ℕ) (left : Runs) : Type 0 where
+  -- Demand 1: it is refused, and no element is altered, or no refusal applies.
+  pub refused : 2 ^ 63 ≤ code → Refuses file (decodeOf c) code × (left ≡ c .before)
+  pub answered : code < 2 ^ 63 → (number place : ℕ) → Applies file (decodeOf c) number place → ⊥
+  -- Demand 2: the points of field k, and their count.
+  pub decoded : code < 2 ^ 63 → (d : Description) × Decodes file c left d × (pointsOf (d .grid) ≡ code)
+  -- Demand 3: how near each double is.
+  pub near : code < 2 ^ 63 → (d : Description) → Decodes file c left d → AllNear file c left d
+
+-- RULES, "Listing": how a refusal is told, and the line of field k.
+abbrev pub toldAs : ℕ → ℕ → List ℕ
+toldAs number place = ascii "refused " ++ decimal number ++ ascii " at " ++ decimal place
+
+pub data Line (input : List ℕ) (k : ℕ) : List ℕ → Type 0 where
+  described : {l : Located} {d : Description} → FieldAt input k l → Judged input l d → Line input k (decimal k ++ ascii " " ++ fieldText d ++ ascii "\n")
+  refused : {number place : ℕ} → First input (describe k) number place → Line input k (decimal k ++ ascii " " ++ toldAs number place ++ ascii "\n")
+
+pub data Lines (input : List ℕ) : ℕ → List ℕ → Type 0 where
+  none : Lines input 0 []
+  next : {k : ℕ} {text line : List ℕ} → Lines input k text → Line input k line → Lines input (suc k) (text ++ line)
+
+-- The listing of an input: 18 before all else, the refusal of the file, or the count of its fields and a line for each.
+pub data Listed (input : List ℕ) : List ℕ → Type 0 where
+  too-long : 65536 < length input → Listed input (toldAs 18 65536 ++ ascii "\n")
+  refused : {number place : ℕ} → length input ≤ 65536 → First input check number place → Listed input (toldAs number place ++ ascii "\n")
+  accepted : {m : ℕ} {fs : List Located} {text : List ℕ} → length input ≤ 65536 → Accepted input m fs → Lines input (length fs) text → Listed input (decimal (length fs) ++ ascii " fields\n" ++ text)
+
+-- What a call of listing_file::list has put into a run, and how long it is.
+pub record Lists (input before after : List ℕ) (behind : ℕ) : Type 0 where
+  pub text : List ℕ
+  pub listed : Listed input text
+  pub put : Puts before 0 text after behind
+
+-- A call of decode by its parameters: k, start, and the two runs.
+abbrev pub runsOf : List Float → List ℕ → Runs
+runsOf values presence = record { values = values; presence = presence }
+
+abbrev pub callOf : ℕ → ℕ → Runs → Call
+callOf k start before = record { k = k; start = start; before = before }
+
+-- The promises, of the contracts that the checker proves of the functions. What is given are their parameters in order: of decode file, k, start, values and
+-- presence; of list the run and the input.
+pub record Calls : Type 2 where
+  pub check : Promises skeptolyr.skeptolyr_check.ended (λ _. skeptolyr.skeptolyr_check.clauses) (λ _ given answer _. Checks (given .0 .now) answer)
+  pub decode :
+      Promises skeptolyr.skeptolyr_decode.ended (λ _. skeptolyr.skeptolyr_decode.clauses)
+      (λ _ given answer lasts.
+      DecodeKeeps (given .0 .now)
+      (callOf (given .1 .0) (given .1 .1 .0) (runsOf (given .1 .1 .1 .0 .now) (given .1 .1 .1 .1 .0 .now)))
+      answer
+      (runsOf (lasts .1 .1 .1 .0) (lasts .1 .1 .1 .1 .0)))
+  pub list : Promises listing.list.ended (λ _. listing.list.clauses) (λ _ given answer lasts. Lists (given .1 .0 .now) (given .0 .now) (lasts .0) answer)
+
+-- The questions in Rattle: each answers what the demands speak of, and decode leaves the runs that they speak of.
+pub record RattleCalls : Type 2 where
+  pub check : Promises tiling.check.ended (λ _. tiling.check.clauses) (λ _ given answer _. answer ≡ Tiling.check (given .0 .now))
+  pub describe : Promises question.describe.ended (λ _. question.describe.clauses) (λ _ given answer _. answer ≡ Describe.describe (given .0 .now) (given .1 .0))
+  pub place : Promises question-place.place.ended (λ _. question-place.place.clauses) (λ _ given answer _. answer ≡ Place.place (given .0 .now) (given .1 .0) (given .1 .1 .0))
+  pub decode :
+      Promises question-decode.decode.ended (λ _. question-decode.decode.clauses)
+      (λ _ given answer lasts.
+      let call = callOf (given .1 .0) (given .1 .1 .0) (runsOf (given .1 .1 .1 .0 .now) (given .1 .1 .1 .1 .0 .now)) in
+      (answer ≡ answerTo (given .0 .now) call) × (runsOf (lasts .1 .1 .1 .0) (lasts .1 .1 .1 .1 .0) ≡ leftBehind (given .0 .now) call))
+  pub rebuild : Promises doubles.rebuild_one.ended (λ _. doubles.rebuild_one.clauses) (λ _ given answer _. answer ≡ rebuildOne (given .0) (given .1 .0) (given .1 .1 .0) (given .1 .1 .1 .0))

@@ -1,0 +1,3 @@
+-- What is promised to those who call the reader.
+pub mod Promises
+pub mod Calls
