@@ -12,28 +12,28 @@ test: ## Prove every crate, try every must-fail edit, and run every other test: 
 	@tools/test
 
 soak: ## Go on comparing with fresh seeds, for ten minutes or as many as are given: make soak MINUTES=60.
-	@tests/evidence/run soak $(or $(MINUTES),10)
+	@python3 -m tests.evidence soak $(or $(MINUTES),10)
 
 bench: ## Measure the proved code natively on this machine, and print the times.
-	@bench/run
+	@python3 -m bench
 
 peers: ## Put damaged files to Skeptolyr and to other readers, and write docs/PEERS.md.
-	@tests/peers/run
+	@python3 -m tests.peers
 
 fuzz: ## Fuzz the proved code natively, for ten minutes or as many as are given: make fuzz MINUTES=60.
-	@fuzz/run $(MINUTES)
+	@python3 -m fuzz $(MINUTES)
 
 check: ## Prove what has changed, and run the programs.
 	rt check
 
 lib: ## Prove and write target/staticlib/libskeptolyr.a, which C links with include/skeptolyr.h.
-	@python3 tools/built.py library skeptolyr
+	@python3 -m tools.built library skeptolyr
 
 examples: ## Prove the reader, and compile the example programs over it, target/numbers and target/draw.
-	@python3 tests/archive.py examples/numbers.c examples/draw.c
+	@python3 -m tools.archive examples/numbers.c examples/draw.c
 
 picture: ## Draw the picture of the README anew.
-	@python3 tests/readme.py --picture
+	@python3 -m tests.readme --picture
 
 build: ## Prove and build what make install installs, for those who will install as root.
 	@tools/install build
@@ -51,10 +51,10 @@ fmt: ## Lay out every file of Rattle and of proofs.
 	rt fmt
 
 house: ## Hold the tree to the rules of the house.
-	@python3 tests/house.py
+	@python3 -m tests.house
 
 believed: ## Count the lines of definitions that the promises stand on.
-	@python3 tests/believed.py
+	@python3 -m tests.help.believed
 
 clean: ## Remove all that was built.
 	rm -rf target

@@ -1,5 +1,4 @@
-#!/usr/bin/env python3
-"""seeds.py FOLDER: writes the small files that the fuzzer starts from, each behind the octets of a question (fuzz/question.h).
+"""python3 -m fuzz.seeds FOLDER: writes the small files that the fuzzer starts from, each behind the octets of a question (fuzz/question.h).
 
 They are the files of the other tests: samples, document 01's examples, a file for each error that we have met, what an earlier field decides,
 refusals 15 and 16, fields in both templates under each indicator, and fields of some hundred points.
@@ -9,12 +8,8 @@ import random
 import shutil
 import sys
 
-TOP = os.path.dirname(os.path.dirname(os.path.abspath(__file__)))
-sys.path.insert(0, os.path.join(TOP, 'tests'))
-import decoding  # noqa: E402
-import fields  # noqa: E402
-import grib  # noqa: E402
-import reading  # noqa: E402
+from tests import decoding, fields
+from tests.help import grib, reading
 
 LONGEST_RUN = 2047
 LONGEST_FILE = 4000

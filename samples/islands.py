@@ -1,7 +1,7 @@
 """A made-up sea around made-up islands: its temperature as a field by template 5.3, missing on land. It is worked out with sums, products and quotients
 alone, which come out the same on every machine."""
-import grib
-import shapes
+from samples import shapes
+from tests.help import grib
 
 COLUMNS, ROWS = 181, 151
 # Humps of land: column, row, how wide. Many of them lean, and make chains of islands.

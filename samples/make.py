@@ -1,14 +1,11 @@
-#!/usr/bin/env python3
 """Writes the sample files beside this script, from document 01 alone. README.md beside it says what each shows."""
 import os
-import sys
 from typing import NamedTuple, Optional
 
-HERE = os.path.dirname(os.path.abspath(__file__))
-sys.path[:0] = [HERE, os.path.join(os.path.dirname(HERE), 'tests')]
-import grib  # noqa: E402
-import islands  # noqa: E402
+from samples import islands
+from tests.help import grib
 
+HERE = os.path.dirname(os.path.abspath(__file__))
 TOO_LONG = 268435457
 
 

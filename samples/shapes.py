@@ -3,12 +3,9 @@ are made where they are needed, and not kept. `times` gives a field so many time
 import array
 import itertools
 import math
-import os
 import random
-import sys
 
-sys.path.insert(0, os.path.join(os.path.dirname(os.path.dirname(os.path.abspath(__file__))), 'tests'))
-import grib  # noqa: E402
+from tests.help import grib
 
 
 # ---- grids, bitmaps and numbers

@@ -1,4 +1,3 @@
-#!/usr/bin/env python3
 """The pictures that examples/draw.c makes, every pixel of them, against an independent reading of the file and of what the program is to draw; and
 what it says, answers and leaves behind when it cannot make one. It ends in 'N passed, M failed'.
 """
@@ -15,14 +14,11 @@ import sys
 import tempfile
 import zlib
 
-import archive
-import decoding
-import grib
-import header
-import reading
-from fields import make
+from samples import make
+from tests import decoding, header
+from tests.help import grib, reading
+from tools import TOP, archive
 
-TOP = os.path.dirname(os.path.dirname(os.path.abspath(__file__)))
 MOST_OCTETS, MOST_POINTS = 268435456, 16777216
 FILE, PICTURE = 'field.grib2', 'picture.png'
 EXAMPLE = grib.two_fields()

@@ -1,4 +1,3 @@
-#!/usr/bin/env python3
 """include/skeptolyr.h, which is the manual: its table of refusals against document 01's and against the proved definition, its functions that take an
 answer apart against document 01's number, what it says of null pointers against the archive, and the compilers' view of it in C and C++. It ends in
 'N passed, M failed'.
@@ -9,10 +8,8 @@ import subprocess
 import sys
 import tempfile
 
-import archive
-import module
+from tools import TOP, archive, module
 
-TOP = archive.TOP
 HEADER = os.path.join(TOP, 'include', 'skeptolyr.h')
 NUMBERS = os.path.join(TOP, 'crates', 'refusals', 'specs', 'Refusals.antt')
 
@@ -109,7 +106,7 @@ def answers_are_right(folder, *language):
 def null_is_taken():
     """A null pointer whose length is 0 is an empty file, refused by 2, or a run without room, refused by 15, and nothing is written elsewhere."""
     with open(os.path.join(TOP, 'samples', 'two-fields.grib2'), 'rb') as sample:
-        said = subprocess.run(archive.program('skeptolyr', 'tests/null.c'), stdin=sample, stdout=subprocess.PIPE, text=True)
+        said = subprocess.run(archive.program('skeptolyr', 'tests/help/null.c'), stdin=sample, stdout=subprocess.PIPE, text=True)
     wanted = ''.join('%016x 0\n' % (1 << 63 | number << 32) for number in (2, 2, 2, 15, 15, 15, 15))
     return is_said('a null pointer with length 0', [] if (said.returncode, said.stdout) == (0, wanted) else ['status %d' % said.returncode, said.stdout])
 

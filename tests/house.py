@@ -1,11 +1,10 @@
-#!/usr/bin/env python3
 """Holds the tree to the rules of the house, one test a rule, and ends in 'N passed, M failed'. Each fault is named with its file and line."""
 import os
 import re
 import subprocess
 import sys
 
-import believed
+from tests.help import believed
 
 TOP = os.path.dirname(os.path.dirname(os.path.abspath(__file__)))
 os.chdir(TOP)
@@ -207,7 +206,7 @@ def outcomes_are_determined():
 
 
 def trust_is_counted():
-    """docs/TRUST.md tells the believed lines of each file, and it and the README their sum, as tests/believed.py counts them, and those of all definitions."""
+    """docs/TRUST.md tells the believed lines of each file, and it and the README their sum, as tests/help/believed.py counts them, and those of all definitions."""
     text = '\n'.join(lines_of('docs/TRUST.md'))
     rows = believed.table()
     if '%d lines of definitions' % sum(count for _, count in rows) not in ' '.join(lines_of('README.md')):
@@ -241,11 +240,9 @@ def demands_name_what_is_there():
 
 def evidence_is_counted():
     """docs/EVIDENCE.md, docs/PEERS.md and the README count the faults, the rules and the kinds of damage as the tests do."""
-    sys.path[:0] = [os.path.join(TOP, 'tests', folder) for folder in ('evidence', 'peers')]
-    import damage
-    import faults
-    import faulty
-    import rules
+    from tests.evidence import faults, rules
+    from tests.help import faulty
+    from tests.peers import damage
     damages = len(damage.kinds())
     kinds = re.search(r'KINDS: \[Kind; (\d+)\]', '\n'.join(lines_of('tests/evidence/damage.rs'))).group(1)
     wanted = [

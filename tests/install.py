@@ -1,4 +1,3 @@
-#!/usr/bin/env python3
 """What `make install` installs: every file with its mode, programs of users that are compiled with it, the manual pages held to the header, and what
 `make uninstall` leaves. One test a sentence; the last line is 'N passed, M failed'. Each fault is named.
 
@@ -12,12 +11,10 @@ import subprocess
 import sys
 import tempfile
 
-import archive
-import built
-import header
-import reading
+from tests import header
+from tests.help import reading
+from tools import TOP, archive, built
 
-TOP = archive.TOP
 MODES = {
     'include/skeptolyr.h': 0o644, 'lib/libskeptolyr.a': 0o644, 'lib/pkgconfig/skeptolyr.pc': 0o644, 'bin/skeptolyr-listing': 0o755, 'bin/skeptolyr-draw': 0o755,
     'share/man/man1/skeptolyr-listing.1': 0o644, 'share/man/man1/skeptolyr-draw.1': 0o644, 'share/man/man3/skeptolyr.3': 0o644,
@@ -211,8 +208,8 @@ def points(sample, k, joined, shown):
 
 
 def linked(prefix, folder, *language):
-    """Compiles tests/linked.c with an installation, and compares what it prints of both samples."""
-    command, said = compiled(prefix, folder, octets_of(TOP, 'tests', 'linked.c').decode(), *language)
+    """Compiles tests/help/linked.c with an installation, and compares what it prints of both samples."""
+    command, said = compiled(prefix, folder, octets_of(TOP, 'tests', 'help', 'linked.c').decode(), *language)
     if not command:
         yield '%s: %s' % (language, said)
         return

@@ -1,12 +1,11 @@
-#!/usr/bin/env python3
 """The leaf layers against computations of their own.
 
 The program `tests_ask` answers questions about doubles, bits and times. This script makes the questions at random, works out each answer in its
 own way (whole numbers and fractions, Python's calendar), and compares. What it shows is that the definitions, which the code is proved to
 meet, are the ones that the world uses.
 
-  leaves.py           compare, and end in 'N passed, M failed'
-  leaves.py --write   write the worked examples as the program's own sample, crates/tests_ask/stdin and stdout
+  python3 -m tests.leaves           compare, and end in 'N passed, M failed'
+  python3 -m tests.leaves --write   write the worked examples as the program's own sample, crates/tests_ask/stdin and stdout
 """
 import datetime
 import os
@@ -15,7 +14,7 @@ import subprocess
 import sys
 from fractions import Fraction
 
-from archive import TOP, built
+from tools import TOP, built
 
 RECORD = 32
 RECORDS_A_RUN = 65536 // RECORD
@@ -226,7 +225,7 @@ def main():
     results = []
     with open(os.path.join(ask, 'stdin'), 'rb') as given, open(os.path.join(ask, 'stdout'), 'rb') as wanted:
         results.append(given.read() == sample and wanted.read() == expected)
-    print('the sample of the program tests_ask: %s' % ('as made here' if results[0] else 'not as made here; run leaves.py --write'))
+    print('the sample of the program tests_ask: %s' % ('as made here' if results[0] else 'not as made here; run python3 -m tests.leaves --write'))
     got = answers(program, [record for _, record, _ in examples])
     wrong = ['  %s: %s, and not %s' % (words, have, want) for (words, _, want), have in zip(examples, got) if have != want]
     print('\n'.join(['worked examples: %d, %d answered otherwise' % (len(examples), len(wrong))] + wrong))

@@ -1,8 +1,7 @@
-#!/usr/bin/env python3
 """The README shows what commands print, and a picture. This runs the commands and draws the picture, and compares.
 
-  readme.py             compare, and end in 'N passed, M failed'
-  readme.py --picture   draw the picture anew, docs/islands.png, with its pixels compressed
+  python3 -m tests.readme             compare, and end in 'N passed, M failed'
+  python3 -m tests.readme --picture   draw the picture anew, docs/islands.png, with its pixels compressed
 """
 import os
 import re
@@ -12,11 +11,10 @@ import sys
 import tempfile
 import zlib
 
-import archive
-import header
-from drawing import chunks_of
+from tests import header
+from tests.drawing import chunks_of
+from tools import TOP, archive
 
-TOP = archive.TOP
 README = os.path.join(TOP, 'README.md')
 PICTURE = os.path.join(TOP, 'docs', 'islands.png')
 # Where the README installs. The test installs elsewhere, and reads this for it.
@@ -26,8 +24,7 @@ PREFIX = '/tmp/skeptolyr'
 CROSS = '''#!/bin/sh
 python3 - "$@" <<'END'
 import os, subprocess, sys
-sys.path.insert(0, 'tests')
-import archive
+from tools import archive
 out = sys.argv[sys.argv.index('-o') + 1]
 subprocess.run([archive.compiler(), '-static', *[word + '.x86-64' if word == out else word for word in sys.argv[1:]]], check=True)
 archive.write_script(out, os.path.abspath(out + '.x86-64'))
@@ -99,7 +96,7 @@ def picture_is_drawn(folder):
     """The README's picture is that of the sample."""
     with open(PICTURE, 'rb') as picture:
         same = content(picture.read()) == content(drawn(folder))
-    faults = ([] if same else ['it is another; run tests/readme.py --picture']) + ([] if '](docs/islands.png)' in header.text_of(README) else ['the README does not show it'])
+    faults = ([] if same else ['it is another; run python3 -m tests.readme --picture']) + ([] if '](docs/islands.png)' in header.text_of(README) else ['the README does not show it'])
     return header.is_said("the README's picture", faults)
 
 

@@ -1,4 +1,3 @@
-#!/usr/bin/env python3
 """The samples, as people meet them: made as the script makes them, told of as they are, and drawn or refused by the example program draw with the
 number, the place and the sentence that belong there. It ends in 'N passed, M failed'.
 """
@@ -8,15 +7,12 @@ import subprocess
 import sys
 import tempfile
 
-import archive
-import header
-import reading
+from samples import make
+from tests import header
+from tests.help import reading
+from tools import TOP, archive
 
-TOP = archive.TOP
 SAMPLES = os.path.join(TOP, 'samples')
-sys.path.insert(0, SAMPLES)
-import make  # noqa: E402
-
 MADE = make.samples()
 
 
@@ -27,7 +23,7 @@ def are_as_made():
         with open(os.path.join(SAMPLES, name), 'rb') as sample:
             faults += [name] if sample.read() != octets else []
     kept = [os.path.relpath(os.path.join(folder, name), SAMPLES) for folder, _, names in os.walk(SAMPLES) for name in names if name.endswith('.grib2')]
-    return header.is_said('the samples are as the script makes them; if not, run samples/make.py', faults + sorted(set(kept) ^ set(MADE)))
+    return header.is_said('the samples are as the script makes them; if not, run python3 -m samples.make', faults + sorted(set(kept) ^ set(MADE)))
 
 
 def are_told_of():

@@ -1,11 +1,10 @@
-#!/usr/bin/env python3
 """What rt builds for others to use: the archive of a library, target/staticlib/libNAME.a, and a program, target/bin/NAME.
 
 Beside each stands a file .made-of, with a digest of the kit, of every file of every crate, and of the built file itself. Where it still holds, rt
 would prove nothing and build the same again, and is not run. Where anything is another, the built file too, rt decides what is to be done.
 
-  built.py library NAME    prove a library unless its archive is of these very files, and print the archive's path
-  built.py program NAME    prove, build and try a program unless it is of these very files, and print its path
+  python3 -m tools.built library NAME    prove a library unless its archive is of these very files, and print the archive's path
+  python3 -m tools.built program NAME    prove, build and try a program unless it is of these very files, and print its path
 """
 import hashlib
 import os
@@ -13,7 +12,7 @@ import re
 import subprocess
 import sys
 
-TOP = os.path.dirname(os.path.dirname(os.path.abspath(__file__)))
+from tools import TOP
 
 
 def of_crates(top=TOP):
@@ -100,7 +99,7 @@ def program(crate):
 def main():
     kinds = {'library': library, 'program': program}
     if len(sys.argv) != 3 or sys.argv[1] not in kinds:
-        sys.exit('usage: built.py library NAME, or built.py program NAME')
+        sys.exit('usage: python3 -m tools.built library NAME, or python3 -m tools.built program NAME')
     print(kinds[sys.argv[1]](sys.argv[2]))
 
 

@@ -5,7 +5,8 @@ import re
 import subprocess
 import sys
 
-TOP = os.path.dirname(os.path.dirname(os.path.abspath(__file__)))
+from tools import TOP
+
 TRIPLE = '%s-unknown-linux-gnu' % platform.machine()
 
 

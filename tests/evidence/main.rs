@@ -89,7 +89,7 @@ fn count(tally: &mut Tally, case: &Case, answer: &Answer) {
 fn report(corpus: &Corpus, differences: &[Difference]) {
     for Difference { number, what } in differences {
         println!("case {} of seed {} differs: {}", number, corpus.seed, what);
-        println!("  to repeat it: tests/evidence/run repeat {} {} {}", corpus.part(), corpus.seed, number);
+        println!("  to repeat it: python3 -m tests.evidence repeat {} {} {}", corpus.part(), corpus.seed, number);
     }
 }
 

@@ -1,13 +1,7 @@
 """The files on either side of each rule, with what document 01 says of each in words, as the tests in Python have them. The independent decoder is
 held to them, and they are cases like others."""
-import os
-import sys
-
-sys.path.insert(0, os.path.dirname(os.path.dirname(os.path.abspath(__file__))))
-import decoding  # noqa: E402
-import fields  # noqa: E402
-import grib  # noqa: E402
-import tiling  # noqa: E402
+from tests import decoding, fields, tiling
+from tests.help import grib
 
 # The kinds of question, and what is told of one that is answered, where the answer is not told.
 CHECK, DESCRIBE, DECODE, TAKEN = 1, 2, 3, 2 ** 64 - 1

@@ -2,13 +2,8 @@
 
 Where nothing else is said, the damage is in the middle message, so that a reader has a good message before it and another behind it.
 """
-import os
-import sys
-
-TOP = os.path.dirname(os.path.dirname(os.path.dirname(os.path.abspath(__file__))))
-sys.path[:0] = [os.path.join(TOP, folder) for folder in ('tests', 'samples', 'tools')]
-import grib  # noqa: E402
-import shapes  # noqa: E402
+from samples import shapes
+from tests.help import grib
 
 NI, NJ = 8, 6
 MARKS = [int(point % 6 != 5) for point in range(NI * NJ)]

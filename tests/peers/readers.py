@@ -15,11 +15,8 @@ import subprocess
 import sys
 import tempfile
 
-import damage
-import archive
-import debian
-import grib
-import reading
+from tests.help import grib, reading
+from tools import TOP, archive, debian
 
 SECONDS = 10
 MEMORY = 1 << 30
@@ -93,7 +90,7 @@ class Program:
         return debian.has_header(self.header)
 
     def make(self):
-        out = os.path.join(damage.TOP, 'target', 'peers-' + self.source)
+        out = os.path.join(TOP, 'target', 'peers-' + self.source)
         os.makedirs(os.path.dirname(out), exist_ok=True)
         subprocess.run(COMPILER + [os.path.join(HERE, self.source + '.c'), *self.flags, '-lm', '-o', out], check=True)
         self.command = [out]

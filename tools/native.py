@@ -1,5 +1,4 @@
-#!/usr/bin/env python3
-"""native CRATE OUT.a: proves a crate and writes its archive as code for this machine, for benchmarks and tests.
+"""python3 -m tools.native CRATE OUT.a: proves a crate and writes its archive as code for this machine, for benchmarks and tests.
 
 `rt staticlib` writes x86-64 code, which is what users link. On another processor that code runs under an emulator, where no time means
 anything. There the LLVM module that the compiler hands to clang is compiled for the machine.
@@ -11,8 +10,7 @@ import shutil
 import sys
 import tempfile
 
-import built
-import module
+from tools import built, module
 
 
 def for_other_machine(crate, out):

@@ -1,5 +1,4 @@
-#!/usr/bin/env python3
-"""run [ARCHIVE]: measures the proved code natively, in one thread, on files made for it. Times are printed, and decide no test.
+"""python3 -m bench [ARCHIVE]: measures the proved code natively, in one thread, on files made for it. Times are printed, and decide no test.
 
 With an ARCHIVE, its skeptolyr_decode is measured, and nothing is proved: for code whose proof is still under way.
 """
@@ -8,12 +7,10 @@ import statistics
 import subprocess
 import sys
 
-TOP = os.path.dirname(os.path.dirname(os.path.abspath(__file__)))
-sys.path[:0] = [os.path.join(TOP, folder) for folder in ('samples', 'tests', 'tools')]
-import debian  # noqa: E402
-import grib  # noqa: E402
-import shapes  # noqa: E402
-from archive import FLAGS  # noqa: E402
+from samples import shapes
+from tests.help import grib
+from tools import TOP, debian
+from tools.archive import FLAGS
 
 COMPILER = ['gcc', *FLAGS, '-O3']
 # The decoders of others: header, package, flags.
@@ -36,7 +33,7 @@ def archive_of(crate):
     """The crate's archive, for this machine."""
     say('proving and compiling ' + crate)
     archive = os.path.join(TOP, 'target', 'lib%s.native.a' % crate)
-    subprocess.run([os.path.join(TOP, 'tools', 'native'), crate, archive], check=True)
+    subprocess.run([sys.executable, '-m', 'tools.native', crate, archive], cwd=TOP, check=True)
     return archive
 
 

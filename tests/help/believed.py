@@ -1,4 +1,3 @@
-#!/usr/bin/env python3
 """Counts what is believed: the lines of the definitions that the promises stand on, and of nothing else, by file.
 
 It starts from the promises (ROOTS) and goes on to every definition that one of them names, and to those that these name. It stops at the names that the contracts
@@ -8,7 +7,7 @@ import os
 import re
 import sys
 
-TOP = os.path.dirname(os.path.dirname(os.path.abspath(__file__)))
+TOP = os.path.dirname(os.path.dirname(os.path.dirname(os.path.abspath(__file__))))
 
 # The statements of the demands, the number that C is given, and the lines that the program prints.
 ROOTS = ['theorems_demands/' + name for name in ('Questions', 'Demand1', 'Demand2', 'Demand3', 'Rebuild')] + ['skeptolyr/Codes', 'listing_file/Listing', 'theorems_outcomes/Determined']

@@ -1,4 +1,4 @@
-"""The faults of tests/faulty.c, in the order of their numbers. The first is none."""
+"""The faults of tests/help/faulty.c, in the order of their numbers. The first is none."""
 
 FAULTS = [
     'no fault',

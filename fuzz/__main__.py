@@ -1,8 +1,7 @@
-#!/usr/bin/env python3
 """Fuzzes native code of the proved library, with libFuzzer and AddressSanitizer.
 
-  run [MINUTES]     fuzz for so many minutes, or for ten
-  run --self-test   put faults between the target and the library, demand that the target finds each, and end in 'N passed, M failed'
+  python3 -m fuzz [MINUTES]     fuzz for so many minutes, or for ten
+  python3 -m fuzz --self-test   put faults between the target and the library, demand that the target finds each, and end in 'N passed, M failed'
 
 The kit's clang compiles the crate's LLVM module with coverage counters and with checks of every load and store; Debian's clang compiles the
 target, without counters, and brings the runtimes of both. So the edges that libFuzzer counts are those of the proved code alone.
@@ -15,11 +14,8 @@ import sys
 import tempfile
 import time
 
-TOP = os.path.dirname(os.path.dirname(os.path.abspath(__file__)))
-sys.path[:0] = [os.path.join(TOP, folder) for folder in ('tests', 'tools')]
-import debian  # noqa: E402
-import module  # noqa: E402
-from faulty import FAULTS as FAULTY, RENAMED  # noqa: E402
+from tests.help.faulty import FAULTS as FAULTY, RENAMED
+from tools import TOP, debian, module
 
 WORK = os.path.join(TOP, 'target', 'fuzz')
 SEEDS, CORPUS, FAULTS, LOG = (os.path.join(WORK, name) for name in ('seeds', 'corpus', 'faults', 'log'))
@@ -30,7 +26,7 @@ ENVIRONMENT = dict(os.environ, ASAN_OPTIONS='detect_leaks=0:quarantine_size_mb=8
 LIMITS = ['-max_len=4096', '-timeout=10', '-rss_limit_mb=2048', '-detect_leaks=0', '-mutate_depth=2', '-print_final_stats=1']
 SECONDS_BETWEEN_LINES = 10
 
-# What the target must say of each fault of tests/faulty.py, in their order.
+# What the target must say of each fault of tests/help/faulty.py, in their order.
 OVERFLOW = 'AddressSanitizer: heap-buffer-overflow'
 STRETCH = "an element outside the field's stretch has changed"
 ELEMENT = "an element and the independent decoder's differ"
@@ -136,10 +132,10 @@ def build(is_faulty):
     install()
     os.makedirs(WORK, exist_ok=True)
     libraries = [build_library(), build_reference()]
-    module.run(sys.executable, os.path.join(TOP, 'fuzz', 'seeds.py'), SEEDS)
+    module.run(sys.executable, '-m', 'fuzz.seeds', SEEDS)
     if not is_faulty:
         return build_target('target', libraries, [('fuzz/target', []), ('fuzz/mutator', [])])
-    return build_target('faulty', libraries, [('fuzz/target', RENAMED), ('fuzz/mutator', []), ('tests/faulty', [])])
+    return build_target('faulty', libraries, [('fuzz/target', RENAMED), ('fuzz/mutator', []), ('tests/help/faulty', [])])
 
 
 # ---- running

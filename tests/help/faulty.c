@@ -12,7 +12,7 @@
 uint64_t faulty_check(const uint8_t *file, size_t file_len);
 uint64_t faulty_decode(const uint8_t *file, size_t file_len, size_t k, size_t start, double *values, size_t values_len, uint8_t *presence, size_t presence_len);
 
-/* In the order of tests/faulty.py's table. */
+/* In the order of tests/help/faulty.py's table. */
 enum {
     NONE,
     /* of check */

@@ -1,18 +1,14 @@
-#!/usr/bin/env python3
 """Programs in C over an archive of proved code. The archive is x86-64 code: on another processor a cross compiler makes the program, and the
 kit's emulator runs it.
 
-  archive.py SOURCE..   compile each source with the reader, and write the program target/NAME
+  python3 -m tools.archive SOURCE..   compile each source with the reader, and write the program target/NAME
 """
 import os
 import platform
 import subprocess
 import sys
 
-TOP = os.path.dirname(os.path.dirname(os.path.abspath(__file__)))
-sys.path.append(os.path.join(TOP, 'tools'))
-import built  # noqa: E402
-import module  # noqa: E402
+from tools import TOP, built, module
 
 # What every program of ours in C is compiled with.
 FLAGS = ['-std=c99', '-D_DEFAULT_SOURCE', '-Wall', '-Wextra', '-pedantic', '-Werror', '-I' + os.path.join(TOP, 'include')]

@@ -1,9 +1,8 @@
-#!/usr/bin/env python3
 """Proved code against the independent decoder of tests/reference, on files made and damaged by the hundred thousand.
 
-  run                            all of what follows but soak and repeat; the last line is 'N passed, M failed'
-  run soak MINUTES [SEED]        go on with fresh seeds
-  run repeat PART SEED NUMBER    one case again, as a failure says it
+  python3 -m tests.evidence                            all of what follows but soak and repeat; the last line is 'N passed, M failed'
+  python3 -m tests.evidence soak MINUTES [SEED]        go on with fresh seeds
+  python3 -m tests.evidence repeat PART SEED NUMBER    one case again, as a failure says it
 """
 import concurrent.futures
 import os
@@ -14,14 +13,11 @@ import subprocess
 import sys
 import time
 
-TOP = os.path.dirname(os.path.dirname(os.path.dirname(os.path.abspath(__file__))))
-sys.path[:0] = [os.path.join(TOP, folder) for folder in ('tests', 'tools')]
-import archive  # noqa: E402
-import debian  # noqa: E402
-import fields  # noqa: E402
-from faults import FAULTS  # noqa: E402
-from faulty import FAULTS as FAULTY, RENAMED  # noqa: E402
-import rules  # noqa: E402
+from tests import fields
+from tests.evidence import rules
+from tests.evidence.faults import FAULTS
+from tests.help.faulty import FAULTS as FAULTY, RENAMED
+from tools import TOP, archive, debian
 
 BUILT = os.path.join(TOP, 'target', 'evidence')
 RULES = os.path.join(BUILT, 'rules')
@@ -67,13 +63,13 @@ def native(crate, source):
     """The command of a program in C over the crate's code for this machine."""
     code = os.path.join(BUILT, 'lib%s.native.a' % crate)
     os.makedirs(BUILT, exist_ok=True)
-    subprocess.run([os.path.join(TOP, 'tools', 'native'), crate, code], check=True)
+    subprocess.run([sys.executable, '-m', 'tools.native', crate, code], cwd=TOP, check=True)
     return [built(crate + '.native', *COMPILER, source, code)]
 
 
 def lenders():
     """The programs that call proved code from C: by name, a command for check and decode and one for describe and place."""
-    programs = (('skeptolyr', 'tests/lend.c'), ('tests_tell', 'tests/tell.c'))
+    programs = (('skeptolyr', 'tests/help/lend.c'), ('tests_tell', 'tests/help/tell.c'))
     found = {'the archive that users link': [archive.program(*program) for program in programs]}
     if platform.machine() == 'x86_64':
         print('The archive is native code on this machine: what goes through the one goes through the other.')
@@ -113,8 +109,8 @@ def compared(program):
 
 def faults_found(program):
     """Is each fault found that stands between the lender and proved code?"""
-    faulty = archive.program('skeptolyr', 'tests/lend.c', 'tests/faulty.c', *RENAMED, name='faulty-lend')
-    teller = archive.program('tests_tell', 'tests/tell.c')
+    faulty = archive.program('skeptolyr', 'tests/help/lend.c', 'tests/help/faulty.c', *RENAMED, name='faulty-lend')
+    teller = archive.program('tests_tell', 'tests/help/tell.c')
     missed = []
     for number, what in list(enumerate(FAULTY))[1:]:
         command = [program, 'compare', RULES, SEED, '0', os.devnull, '--', *faulty, '--', *teller]

@@ -1,0 +1,1 @@
+"""How fast the proved code is: python3 -m bench."""

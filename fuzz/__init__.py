@@ -1,0 +1,1 @@
+"""The proved code under libFuzzer: python3 -m fuzz."""

@@ -1,0 +1,1 @@
+"""What holds Skeptolyr to the world. README.md beside this file says what is where."""

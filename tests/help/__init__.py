@@ -1,0 +1,1 @@
+"""What helps the tests, and tests nothing itself."""
