@@ -100,8 +100,8 @@ def build_library():
     """The proved code, with counters and checks. It is not optimised: most of its branches would be made into arithmetic, which counts no edge."""
     say('proving and compiling skeptolyr')
     text, code = os.path.join(WORK, 'skeptolyr.ll'), os.path.join(WORK, 'skeptolyr.o')
-    with tempfile.TemporaryDirectory() as work, open(text, 'w') as lines:
-        lines.write(with_checks(module.text_of('skeptolyr', work)))
+    with open(module.text('skeptolyr')) as plain, open(text, 'w') as lines:
+        lines.write(with_checks(plain.read()))
     module.run(module.tool('clang'), '--target=' + module.TRIPLE, '-O0', '-fPIC', '-fno-omit-frame-pointer', '-fsanitize=fuzzer-no-link,address',
                '-fno-sanitize-ignorelist', '-Wno-override-module', '-x', 'ir', '-c', text, '-o', code)
     return code

@@ -113,8 +113,7 @@ def null_is_taken():
 
 def nothing_is_assumed():
     """The compiler is told nothing of the pointers that C hands over: not that they are not null, nor that there is memory behind them."""
-    with tempfile.TemporaryDirectory() as folder:
-        text = module.text_of('skeptolyr', folder)
+    text = text_of(module.text('skeptolyr'))
     heads = re.findall(r'^define [^@]*@skeptolyr_\w+\(.*$', text, re.M)
     faults = ['%d functions for C' % len(heads)] * (len(heads) != 2)
     return is_said('what the compiler is told of pointers', faults + re.findall(r'.*\b(?:nonnull|dereferenceable|noalias)\b.*', text))

@@ -7,6 +7,7 @@ import os
 import platform
 import subprocess
 import sys
+import tempfile
 
 from tools import TOP, built, module
 
@@ -37,9 +38,14 @@ def program(crate, source, *more, name=None):
     archive = built.library(crate)
     out = os.path.join(TOP, 'target', name or os.path.splitext(os.path.basename(source))[0])
     code = out if NATIVE else out + '.x86-64'
-    subprocess.run([compiler(), *FLAGS, '-O2', '-static', source, *more, archive, '-o', code], cwd=TOP, check=True)
-    if not NATIVE:
-        write_script(out, code)
+    # Two who compile the same program at once, or while it runs, do not disturb each other: what is whole takes the old one's place.
+    with tempfile.TemporaryDirectory(dir=os.path.join(TOP, 'target')) as made:
+        program_made, script_made = os.path.join(made, 'program'), os.path.join(made, 'script')
+        subprocess.run([compiler(), *FLAGS, '-O2', '-static', source, *more, archive, '-o', program_made], cwd=TOP, check=True)
+        os.replace(program_made, code)
+        if not NATIVE:
+            write_script(script_made, code)
+            os.replace(script_made, out)
     return [out]
 
 

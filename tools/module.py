@@ -1,11 +1,15 @@
-"""The LLVM module of a proved crate: what the Rattle compiler hands to clang, as text that can be compiled for any machine."""
+"""The LLVM module of a proved crate: what the Rattle compiler hands to clang, as text that can be compiled for any machine.
+
+  python3 -m tools.module NAME    prove a library unless its module is of these very files, and print the path of the module's text
+"""
 import os
 import platform
 import re
 import subprocess
 import sys
+import tempfile
 
-from tools import TOP
+from tools import TOP, built
 
 TRIPLE = '%s-unknown-linux-gnu' % platform.machine()
 
@@ -49,10 +53,27 @@ def caught(crate, work):
     return module
 
 
-def text_of(crate, work):
-    """The crate's module as text, with nothing in it that names a machine."""
-    module, text = caught(crate, work), os.path.join(work, 'module.ll')
+def write_text(crate):
+    """Writes the crate's module as text, with nothing in it that names a machine."""
     plain = ['-S', '-emit-llvm', '-O3', '-Xclang', '-disable-llvm-passes', '-Wno-override-module']
-    run(tool('clang'), '--target=x86_64-unknown-linux-gnu', '-x', 'ir', module, *plain, '-o', text)
-    with open(text) as lines:
-        return re.sub(r'(?m)^target .*\n|"target-cpu"="[^"]*"|"probe-stack"="[^"]*"', '', lines.read())
+    with tempfile.TemporaryDirectory() as work:
+        text = os.path.join(work, 'module.ll')
+        run(tool('clang'), '--target=x86_64-unknown-linux-gnu', '-x', 'ir', caught(crate, work), *plain, '-o', text)
+        with open(text) as lines:
+            told = re.sub(r'(?m)^target .*\n|"target-cpu"="[^"]*"|"probe-stack"="[^"]*"', '', lines.read())
+    os.makedirs(os.path.dirname(path_of(crate)), exist_ok=True)
+    with open(path_of(crate), 'w') as lines:
+        lines.write(told)
+
+
+def path_of(crate):
+    return os.path.join(TOP, 'target', 'module', crate + '.ll')
+
+
+def text(crate):
+    """The path of the module's text, which is of the crates as they are."""
+    return built.current(path_of(crate), crate, write_text)
+
+
+if __name__ == '__main__':
+    print(text(sys.argv[1]))

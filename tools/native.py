@@ -15,11 +15,9 @@ from tools import built, module
 
 def for_other_machine(crate, out):
     with tempfile.TemporaryDirectory() as work:
-        text, code = os.path.join(work, crate + '.ll'), os.path.join(work, crate + '.o')
-        with open(text, 'w') as lines:
-            lines.write(module.text_of(crate, work))
+        code = os.path.join(work, crate + '.o')
         flags = ['--target=' + module.TRIPLE, '-O3', '-ffunction-sections', '-fPIC', '-Wno-override-module']
-        module.run(module.tool('clang'), *flags, '-x', 'ir', '-c', text, '-o', code)
+        module.run(module.tool('clang'), *flags, '-x', 'ir', '-c', module.text(crate), '-o', code)
         for old in glob.glob(out):
             os.remove(old)
         module.run(module.tool('llvm-ar'), 'rcs', out, code)
