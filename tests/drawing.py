@@ -15,8 +15,8 @@ import tempfile
 import zlib
 
 from samples import make
-from tests import decoding, header
-from tests.help import grib, reading
+from tests import decoding
+from tests.help import grib, manual, reading, report
 from tools import TOP, archive
 
 MOST_OCTETS, MOST_POINTS = 268435456, 16777216
@@ -415,8 +415,7 @@ def has_terminals():
 def progress(draw):
     """On a terminal it shows what it is doing on one line, and clears it; a refusal stands there alone."""
     if not has_terminals():
-        print('SKIPPED: this machine has no pseudo terminals, so what is shown on one was not tried')
-        return
+        raise report.Skipped('what draw shows on a terminal', 'this machine has no pseudo terminals')
     draw.put(EXAMPLE)
     refused = draw.run('-f', '2', FILE, PICTURE).stderr
     status, sent, _ = on_a_terminal(draw, '-f', '2', FILE, PICTURE)
@@ -458,7 +457,7 @@ def refusals(draw):
         (EXAMPLE, ('-r', '1'), 15, 0, '1 point: '), (grib.spliced(EXAMPLE, 37 + 14, b'\7'), (), 10, 37, '-j 37 ')]
     for file, words, number, place, advice in cases:
         draw.put(file)
-        said = r'\Adraw: %s: %s\ndraw: .*%s.*\n\Z' % (FILE, re.escape(header.refused(number, place)), re.escape(advice))
+        said = r'\Adraw: %s: %s\ndraw: .*%s.*\n\Z' % (FILE, re.escape(manual.refused(number, place)), re.escape(advice))
         yield draw.ended(1, *words, FILE, PICTURE, says=said)
         draw.put(b'before', 'other.png')
         draw.run(*words, FILE, 'other.png')
@@ -573,27 +572,14 @@ def any_doubles(draw):
 TESTS = [every_pixel, large_letters, the_largest, progress, misuse, refusals, cannot, little_memory, any_doubles]
 
 
-def faults_of(test, draw):
-    faults = []
-    try:
-        faults += filter(None, test(draw))
-    except subprocess.TimeoutExpired as late:
-        faults.append(str(late))
-    return faults
+def tried(test, program):
+    with tempfile.TemporaryDirectory() as folder:
+        return report.tried(test, Draw(program, folder))
 
 
 def main():
     program = archive.program('skeptolyr', 'examples/draw.c')
-    failed = 0
-    for test in TESTS:
-        with tempfile.TemporaryDirectory() as folder:
-            faults = faults_of(test, Draw(program, folder))
-        failed += bool(faults)
-        print('%s  %s' % ('FAILED' if faults else 'ok    ', test.__doc__), flush=True)
-        for fault in faults[:8]:
-            print('        ' + fault)
-    print('%d passed, %d failed' % (len(TESTS) - failed, failed))
-    return 1 if failed else 0
+    return report.ended([tried(test, program) for test in TESTS])
 
 
 if __name__ == '__main__':

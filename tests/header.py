@@ -8,9 +8,10 @@ import subprocess
 import sys
 import tempfile
 
+from tests.help.manual import HEADER, refusals, text_of
+from tests.help.report import ended, judged
 from tools import TOP, archive, module
 
-HEADER = os.path.join(TOP, 'include', 'skeptolyr.h')
 NUMBERS = os.path.join(TOP, 'crates', 'refusals', 'specs', 'Refusals.antt')
 
 # Document 01, "Refusals by number" and "Tiling a file": the number, the name that the definition has for it, and the place.
@@ -36,43 +37,20 @@ LANGUAGES = [('gcc', 'c', standard) for standard in ('c99', 'c11', 'c17')] + [('
 WARNINGS = ['-Wall', '-Wextra', '-pedantic', '-Wconversion', '-Wshadow', '-Wundef', '-Werror', '-I' + os.path.dirname(HEADER)]
 
 
-def text_of(path):
-    with open(path, encoding='utf-8') as text:
-        return text.read()
-
-
 def constant(name):
     """The header's name of a refusal: NotGrib2 is SKEPTOLYR_NOT_GRIB2."""
     return 'SKEPTOLYR' + re.sub(r'[A-Z]', lambda letter: '_' + letter.group(), name).upper()
 
 
-def is_said(what, faults):
-    """Tells of a test and its faults."""
-    print('%s: %s' % (what, 'as it should be' if not faults else '\n  '.join(['not as it should be'] + faults)), flush=True)
-    return not faults
-
-
-def refusals():
-    """The header's refusals: constant, number, place, and the sentence that stands behind the constant in skeptolyr_refusal_text."""
-    sentences = dict(re.findall(r'^    case (\w+): return "(.*)";$', text_of(HEADER), re.M))
-    rows = re.findall(r'^    (SKEPTOLYR_\w+) = +(\d+),? +/\* (.*) \*/$', text_of(HEADER), re.M)
-    return [(name, int(number), place, sentences.get(name)) for name, number, place in rows]
-
-
-def refused(number, place):
-    """What a program of ours says of a refusal."""
-    return 'refused %d at %d. %s' % (number, place, refusals()[number - 1][3])
-
-
 def table_is_right():
     rows = [row[:3] for row in refusals()]
     wanted = [(constant(name), number, place) for number, name, place in TABLE]
-    return is_said("the header's table of refusals is document 01's", ['%s for %s' % pair for pair in zip(rows, wanted) if pair[0] != pair[1]] + ['%d rows' % len(rows)] * (len(rows) != len(wanted)))
+    return judged("the header's table of refusals is document 01's", ['%s for %s' % pair for pair in zip(rows, wanted) if pair[0] != pair[1]] + ['%d rows' % len(rows)] * (len(rows) != len(wanted)))
 
 
 def definition_is_the_same():
     cases = [(int(number), name) for name, number in re.findall(r'^numberOf Why\.(\w+) = (\d+)$', text_of(NUMBERS), re.M)]
-    return is_said("the proved definition's numbers are document 01's", [] if cases == [row[:2] for row in TABLE] else [str(cases)])
+    return judged("the proved definition's numbers are document 01's", [] if cases == [row[:2] for row in TABLE] else [str(cases)])
 
 
 # ---- what the header's own functions answer
@@ -92,13 +70,13 @@ def answers_are_right(folder, *language):
     """Compiled without a warning, do the header's functions answer as document 01 says?"""
     lines = printed(folder, *language)
     if len(lines) != 21 + len(ANSWERS):
-        return is_said('the header in %s' % language[2], lines)
+        return judged('the header in %s' % language[2], lines)
     sentences, numbers = lines[:21], lines[21:]
     faults = ['%s of %x: %s' % (function, answer, got) for (function, answer, want), got in zip(ANSWERS, numbers) if got != str(want)]
     faults += ['sentence %d: %s' % (number, sentences[number]) for number, word in WORDS.items() if word not in sentences[number] or not re.fullmatch(r'[A-Z].*\.', sentences[number])]
     faults += ['sentences of 0 and 20: %s' % sentences[0]] * (sentences[0] != 'No refusal has this number.' or sentences[20] != sentences[0])
     faults += ['two sentences are the same'] * (len(set(sentences[:20])) != 20)
-    return is_said('the header in %s' % language[2], faults)
+    return judged('the header in %s' % language[2], faults)
 
 
 # ---- null pointers
@@ -108,7 +86,7 @@ def null_is_taken():
     with open(os.path.join(TOP, 'samples', 'two-fields.grib2'), 'rb') as sample:
         said = subprocess.run(archive.program('skeptolyr', 'tests/help/null.c'), stdin=sample, stdout=subprocess.PIPE, text=True)
     wanted = ''.join('%016x 0\n' % (1 << 63 | number << 32) for number in (2, 2, 2, 15, 15, 15, 15))
-    return is_said('a null pointer with length 0', [] if (said.returncode, said.stdout) == (0, wanted) else ['status %d' % said.returncode, said.stdout])
+    return judged('a null pointer with length 0', [] if (said.returncode, said.stdout) == (0, wanted) else ['status %d' % said.returncode, said.stdout])
 
 
 def nothing_is_assumed():
@@ -116,15 +94,14 @@ def nothing_is_assumed():
     text = text_of(module.text('skeptolyr'))
     heads = re.findall(r'^define [^@]*@skeptolyr_\w+\(.*$', text, re.M)
     faults = ['%d functions for C' % len(heads)] * (len(heads) != 2)
-    return is_said('what the compiler is told of pointers', faults + re.findall(r'.*\b(?:nonnull|dereferenceable|noalias)\b.*', text))
+    return judged('what the compiler is told of pointers', faults + re.findall(r'.*\b(?:nonnull|dereferenceable|noalias)\b.*', text))
 
 
 def main():
     results = [table_is_right(), definition_is_the_same(), null_is_taken(), nothing_is_assumed()]
     with tempfile.TemporaryDirectory() as folder:
         results += [answers_are_right(folder, *language) for language in LANGUAGES]
-    print('%d passed, %d failed' % (sum(results), len(results) - sum(results)))
-    return 0 if all(results) else 1
+    return ended(results)
 
 
 if __name__ == '__main__':

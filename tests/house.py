@@ -4,7 +4,7 @@ import re
 import subprocess
 import sys
 
-from tests.help import believed
+from tests.help import believed, report
 
 TOP = os.path.dirname(os.path.dirname(os.path.abspath(__file__)))
 os.chdir(TOP)
@@ -297,15 +297,7 @@ RULES = [crates_are_listed, lowest_first, sources_in_crates, layout, must_fail_e
 
 
 def main():
-    failed = 0
-    for rule in RULES:
-        faults = list(rule())
-        failed += bool(faults)
-        print('%s  %s' % ('FAILED' if faults else 'ok    ', rule.__doc__))
-        for fault in faults:
-            print('        ' + fault)
-    print('%d passed, %d failed' % (len(RULES) - failed, failed))
-    return 1 if failed else 0
+    return report.ended([report.tried(rule) for rule in RULES])
 
 
 if __name__ == '__main__':

@@ -11,8 +11,7 @@ import subprocess
 import sys
 import tempfile
 
-from tests import header
-from tests.help import reading
+from tests.help import manual, reading, report
 from tools import TOP, archive, built
 
 MODES = {
@@ -47,9 +46,9 @@ def write(path, text):
 
 # ---- the header
 
-HEADER = header.text_of(header.HEADER)
+HEADER = manual.text_of(manual.HEADER)
 VERSION = re.search(r'^#define SKEPTOLYR_VERSION "(.*)"$', HEADER, re.M).group(1)
-REFUSALS = header.refusals()
+REFUSALS = manual.refusals()
 # The declaration of every function that the header declares or defines.
 DECLARATIONS = {name: declaration + ';' for declaration, name in re.findall(r'^(\w[\w ]*[ *](skeptolyr_\w+)\([^)]*\))(?:;|\n\{)', HEADER, re.M)}
 NAMES = set(DECLARATIONS) | set(re.findall(r'^#define (SKEPTOLYR_\w+) ', HEADER, re.M)) | {name for name, _, _, _ in REFUSALS}
@@ -213,8 +212,8 @@ def linked(prefix, folder, *language):
     if not command:
         yield '%s: %s' % (language, said)
         return
-    two = ['1 messages, 2 fields'] + ['4 points: ' + points('two-fields.grib2', k, ' ', '%(is)s') for k in (0, 1)] + [header.refused(8, 0)]
-    for sample, lines in [('two-fields.grib2', two), ('accident.grib2', [header.refused(7, 0)])]:
+    two = ['1 messages, 2 fields'] + ['4 points: ' + points('two-fields.grib2', k, ' ', '%(is)s') for k in (0, 1)] + [manual.refused(8, 0)]
+    for sample, lines in [('two-fields.grib2', two), ('accident.grib2', [manual.refused(7, 0)])]:
         wanted = (0, '\n'.join(['Skeptolyr ' + VERSION] + lines) + '\n', '')
         if asked(command, sample) != wanted:
             yield '%s, %s: expected %s, got %s' % (language, sample, wanted, asked(command, sample))
@@ -250,7 +249,7 @@ def example_in_the_manual(scratch):
     if not command:
         yield said
         return
-    for sample, wanted in [('two-fields.grib2', (0, points('two-fields.grib2', 0, '', '%(n)d %(is)s\n'), '')), ('accident.grib2', (1, '', header.refused(7, 0) + '\n'))]:
+    for sample, wanted in [('two-fields.grib2', (0, points('two-fields.grib2', 0, '', '%(n)d %(is)s\n'), '')), ('accident.grib2', (1, '', manual.refused(7, 0) + '\n'))]:
         if asked(command, sample) != wanted:
             yield '%s: expected %s, got %s' % (sample, wanted, asked(command, sample))
 
@@ -270,7 +269,7 @@ def programs_run(scratch):
         yield 'skeptolyr-draw: ended with %d and no picture: %s' % (status, said)
     accident = SAMPLES['accident.grib2']
     status, _, said = asked([*draw, accident, picture], 'accident.grib2')
-    if (status, said.split('\n')[0]) != (1, 'draw: %s: %s' % (accident, header.refused(7, 0))):
+    if (status, said.split('\n')[0]) != (1, 'draw: %s: %s' % (accident, manual.refused(7, 0))):
         yield 'skeptolyr-draw, the accident: ended with %d: %s' % (status, said)
     status, _, said = asked([*draw, os.path.join(scratch, 'not there'), picture], 'accident.grib2')
     if status != 2 or not said:
@@ -365,7 +364,7 @@ def pages_show_what_programs_print(scratch):
     for sample, path in SAMPLES.items():
         if ' < %s %s' % (sample, ' '.join(reading.listing(octets_of(path)).split())) not in shown['listing']:
             yield 'skeptolyr-listing.1 shows of %s: %s' % (sample, shown['listing'])
-    if 'draw: accident.grib2: ' + header.refused(7, 0) not in shown['draw']:
+    if 'draw: accident.grib2: ' + manual.refused(7, 0) not in shown['draw']:
         yield 'skeptolyr-draw.1 shows: ' + shown['draw']
 
 
@@ -388,25 +387,9 @@ TESTS = [
     refusals_are_those_of_the_header, pages_show_what_programs_print, uninstalls]
 
 
-def faults_of(test, *words):
-    """What a test finds at fault. One that cannot go on, as where a file is missing, has failed."""
-    try:
-        return list(test(*words))
-    except (OSError, subprocess.SubprocessError) as fault:
-        return [str(fault)]
-
-
 def main():
-    failed = 0
     with tempfile.TemporaryDirectory() as scratch:
-        for test, *words in [(header_is_understood,)] + [(test, scratch) for test in TESTS]:
-            faults = faults_of(test, *words)
-            failed += bool(faults)
-            print('%s  %s' % ('FAILED' if faults else 'ok    ', test.__doc__), flush=True)
-            for fault in faults:
-                print('        ' + fault.strip().replace('\n', '\n        '))
-    print('%d passed, %d failed' % (len(TESTS) + 1 - failed, failed))
-    return 1 if failed else 0
+        return report.ended([report.tried(header_is_understood)] + [report.tried(test, scratch) for test in TESTS])
 
 
 if __name__ == '__main__':

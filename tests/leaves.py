@@ -10,10 +10,10 @@ meet, are the ones that the world uses.
 import datetime
 import os
 import random
-import subprocess
 import sys
 from fractions import Fraction
 
+from tests.help import report
 from tools import TOP, built
 
 RECORD = 32
@@ -171,25 +171,21 @@ def random_order(rng):
 # ---- asking
 
 def answers(program, records):
-    run = subprocess.run(program, input=b''.join(record.ljust(RECORD, b'\0') for record in records), stdout=subprocess.PIPE, check=True)
-    return run.stdout.decode().splitlines()
+    """The program's answer to each record, or None. A run of it takes so many records."""
+    for at in range(0, len(records), RECORDS_A_RUN):
+        part = records[at:at + RECORDS_A_RUN]
+        lines = report.answers(program, b''.join(record.ljust(RECORD, b'\0') for record in part)).decode().splitlines()
+        yield from lines + [None] * (len(part) - len(lines))
 
 
 def compare(program, name, make, count):
     rng = random.Random('%s %d' % (name, SEED))
-    wrong = done = 0
-    while done < count:
-        cases = [make(rng) for _ in range(min(RECORDS_A_RUN, count - done))]
-        got = answers(program, [record for record, _ in cases])
-        got += ['nothing'] * (len(cases) - len(got))
-        for (record, expected), answer in zip(cases, got):
-            if answer != expected:
-                wrong += 1
-                if wrong <= 5:
-                    print('%s %s: expected %s, got %s' % (name, record.hex(), expected, answer))
-        done += len(cases)
-    print('%s: %d questions, %d answered otherwise (SEED=%d)' % (name, count, wrong, SEED), flush=True)
-    return wrong == 0
+    records, wanted = zip(*(make(rng) for _ in range(count)))
+
+    def told(record, want, have):
+        return '%s: expected %s, got %s' % (record.hex(), want, have)
+
+    return report.compared('%s (SEED=%d)' % (name, SEED), records, wanted, answers(program, records), told)
 
 
 def worked_examples():
@@ -226,14 +222,11 @@ def main():
     with open(os.path.join(ask, 'stdin'), 'rb') as given, open(os.path.join(ask, 'stdout'), 'rb') as wanted:
         results.append(given.read() == sample and wanted.read() == expected)
     print('the sample of the program tests_ask: %s' % ('as made here' if results[0] else 'not as made here; run python3 -m tests.leaves --write'))
-    got = answers(program, [record for _, record, _ in examples])
-    wrong = ['  %s: %s, and not %s' % (words, have, want) for (words, _, want), have in zip(examples, got) if have != want]
-    print('\n'.join(['worked examples: %d, %d answered otherwise' % (len(examples), len(wrong))] + wrong))
-    results.append(not wrong and len(got) == len(examples))
+    words, records, wanted = zip(*examples)
+    results.append(report.compared('worked examples', words, wanted, answers(program, records), '{}: expected {}, got {}'.format))
     makers = {'rebuild': random_rebuild, 'bits': random_bits, 'later': random_later, 'order': random_order}
     results += [compare(program, name, makers[name], count) for name, count in CASES.items()]
-    print('%d passed, %d failed' % (sum(results), len(results) - sum(results)))
-    return 0 if all(results) else 1
+    return report.ended(results)
 
 
 if __name__ == '__main__':

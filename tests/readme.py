@@ -11,8 +11,8 @@ import sys
 import tempfile
 import zlib
 
-from tests import header
 from tests.drawing import chunks_of
+from tests.help import manual, report
 from tools import TOP, archive
 
 README = os.path.join(TOP, 'README.md')
@@ -44,14 +44,14 @@ def difference(shown, printed):
 
 def sample_is_shown():
     """What tools/sample prints stands in the README."""
-    shown = re.search(r'The first prints:\n\n```\n(.*?)```\n', header.text_of(README), re.S)
+    shown = re.search(r'The first prints:\n\n```\n(.*?)```\n', manual.text_of(README), re.S)
     done = subprocess.run([os.path.join(TOP, 'tools', 'sample')], stdout=subprocess.PIPE, text=True)
-    return header.is_said('tools/sample prints what the README shows', difference(shown.group(1) if shown else '', done.stdout) + ['it ended with %d' % done.returncode] * (done.returncode != 0))
+    return report.judged('tools/sample prints what the README shows', difference(shown.group(1) if shown else '', done.stdout) + ['it ended with %d' % done.returncode] * (done.returncode != 0))
 
 
 def commands_print(folder):
     """Each command of the README's console block, in one shell, prints what the block shows behind it."""
-    blocks = re.findall(r'^```console\n(.*?)^```$', header.text_of(README), re.S | re.M)
+    blocks = re.findall(r'^```console\n(.*?)^```$', manual.text_of(README), re.S | re.M)
     script = ['exec 2>&1']
     for command in re.findall(r'^\$ (.*)$', ''.join(blocks), re.M):
         script += ["cat <<'END'\n$ %s\nEND" % command, command]
@@ -66,7 +66,7 @@ def commands_print(folder):
     # Only there does the installation also say that its code is for x86-64.
     printed = done.stdout.replace(prefix, PREFIX) if archive.NATIVE else re.sub(r'^install: this machine is .*\n', '', done.stdout.replace(prefix, PREFIX), flags=re.M)
     faults = [] if blocks else ['there is no console block']
-    return header.is_said("the commands of the README's console block", faults + difference(''.join(blocks), printed))
+    return report.judged("the commands of the README's console block", faults + difference(''.join(blocks), printed))
 
 
 # ---- the picture
@@ -96,8 +96,8 @@ def picture_is_drawn(folder):
     """The README's picture is that of the sample."""
     with open(PICTURE, 'rb') as picture:
         same = content(picture.read()) == content(drawn(folder))
-    faults = ([] if same else ['it is another; run python3 -m tests.readme --picture']) + ([] if '](docs/islands.png)' in header.text_of(README) else ['the README does not show it'])
-    return header.is_said("the README's picture", faults)
+    faults = ([] if same else ['it is another; run python3 -m tests.readme --picture']) + ([] if '](docs/islands.png)' in manual.text_of(README) else ['the README does not show it'])
+    return report.judged("the README's picture", faults)
 
 
 def main():
@@ -107,8 +107,7 @@ def main():
                 picture.write(compressed(drawn(folder)))
             return 0
         results = [sample_is_shown(), commands_print(folder), picture_is_drawn(folder)]
-    print('%d passed, %d failed' % (sum(results), len(results) - sum(results)))
-    return 0 if all(results) else 1
+    return report.ended(results)
 
 
 if __name__ == '__main__':

@@ -8,8 +8,7 @@ import sys
 import tempfile
 
 from samples import make
-from tests import header
-from tests.help import reading
+from tests.help import manual, reading, report
 from tools import TOP, archive
 
 SAMPLES = os.path.join(TOP, 'samples')
@@ -23,14 +22,14 @@ def are_as_made():
         with open(os.path.join(SAMPLES, name), 'rb') as sample:
             faults += [name] if sample.read() != octets else []
     kept = [os.path.relpath(os.path.join(folder, name), SAMPLES) for folder, _, names in os.walk(SAMPLES) for name in names if name.endswith('.grib2')]
-    return header.is_said('the samples are as the script makes them; if not, run python3 -m samples.make', faults + sorted(set(kept) ^ set(MADE)))
+    return report.judged('the samples are as the script makes them; if not, run python3 -m samples.make', faults + sorted(set(kept) ^ set(MADE)))
 
 
 def are_told_of():
     """samples/README.md has the row of each refusal, and names each file."""
-    text = header.text_of(os.path.join(SAMPLES, 'README.md'))
+    text = manual.text_of(os.path.join(SAMPLES, 'README.md'))
     rows = re.findall(r'^\| \d+ .*$', text, re.M)
-    return header.is_said("the samples' table", [row for row in make.table() if row not in rows] + ['%d rows' % len(rows)] * (len(rows) != 16) + [name for name in MADE if '](%s)' % name not in text])
+    return report.judged("the samples' table", [row for row in make.table() if row not in rows] + ['%d rows' % len(rows)] * (len(rows) != 16) + [name for name in MADE if '](%s)' % name not in text])
 
 
 def are_read_as_told():
@@ -44,7 +43,7 @@ def are_read_as_told():
             faults.append('%s is not refused' % refusal.file)
         except reading.Refused as refused:
             faults += ['%s: %s' % (refusal.file, refused)] if (refused.number, refused.place) != (refusal.number, refusal.place) else []
-    return header.is_said('the samples in the independent reading', faults)
+    return report.judged('the samples in the independent reading', faults)
 
 
 # ---- the example programs
@@ -64,9 +63,9 @@ def is_refused(draw, refusal, folder):
             file.truncate(make.TOO_LONG)
     words = ['-f', str(refusal.field)] + (['-r', str(refusal.room)] if refusal.room else [])
     status, out, said = run(*draw, *words, path, picture)
-    wanted = 'draw: %s: %s' % (path, header.refused(refusal.number, refusal.place))
+    wanted = 'draw: %s: %s' % (path, manual.refused(refusal.number, refusal.place))
     faults = ['it ended with %d' % status] * (status != 1) + ['it said: %s%s' % (out, said)] * (out != '' or said.split('\n')[0] != wanted) + ['it left a picture'] * os.path.exists(picture)
-    return header.is_said('refusal %d at %d, %s' % (refusal.number, refusal.place, refusal.what), faults)
+    return report.judged('refusal %d at %d, %s' % (refusal.number, refusal.place, refusal.what), faults)
 
 
 def are_drawn(draw, folder):
@@ -75,7 +74,7 @@ def are_drawn(draw, folder):
     for name, field in (('two-fields.grib2', '0'), ('two-fields.grib2', '1'), ('islands.grib2', '0')):
         status, _, said = run(*draw, '-f', field, os.path.join(SAMPLES, name), os.path.join(folder, name + field))
         faults += ['%s, field %s: %d %s' % (name, field, status, said)] * (status != 0 or said != '' or not os.path.exists(os.path.join(folder, name + field)))
-    return header.is_said('the samples that are drawn', faults)
+    return report.judged('the samples that are drawn', faults)
 
 
 def are_printed():
@@ -84,10 +83,10 @@ def are_printed():
     two = os.path.join(SAMPLES, 'two-fields.grib2')
     wanted = [
         ((two, '0'), (0, '0 291\n1 missing\n2 2748\n3 missing\n', '')), ((two, '1'), (0, '0 0.5\n1 missing\n2 0.7\n3 missing\n', '')),
-        ((two, '2'), (1, '', header.refused(8, 0) + '\n')), ((os.path.join(SAMPLES, 'accident.grib2'), '0'), (1, '', header.refused(7, 0) + '\n'))]
+        ((two, '2'), (1, '', manual.refused(8, 0) + '\n')), ((os.path.join(SAMPLES, 'accident.grib2'), '0'), (1, '', manual.refused(7, 0) + '\n'))]
     faults = ['%s: %s' % (words[1], run(*numbers, *words)) for words, want in wanted if run(*numbers, *words) != want]
     faults += ['%s: no usage' % (words,) for words in ((two,), (two, 'first'), ('no such file', '0'), (SAMPLES, '0')) if run(*numbers, *words)[:2] != (2, '')]
-    return header.is_said('the program numbers', faults)
+    return report.judged('the program numbers', faults)
 
 
 def main():
@@ -96,8 +95,7 @@ def main():
     with tempfile.TemporaryDirectory() as folder:
         results.append(are_drawn(draw, folder))
         results += [is_refused(draw, refusal, folder) for refusal in make.REFUSALS]
-    print('%d passed, %d failed' % (sum(results), len(results) - sum(results)))
-    return 0 if all(results) else 1
+    return report.ended(results)
 
 
 if __name__ == '__main__':

@@ -16,6 +16,7 @@ import time
 from tests import fields
 from tests.evidence import rules
 from tests.evidence.faults import FAULTS
+from tests.help import report
 from tests.help.faulty import FAULTS as FAULTY, RENAMED
 from tools import TOP, archive, debian
 
@@ -99,12 +100,12 @@ def decoder_tests():
 
 
 def compared(program):
-    """The corpus through every lender there is."""
+    """Does the corpus go through every lender there is? It is one test, so that there are as many where the archive is native code."""
     results = []
     for name, (lender, teller) in lenders().items():
         print('%s, against the independent decoder:' % name, flush=True)
         results.append(asked(program, 'compare', RULES, SEED, CASES, RECORD, '--', *lender, '--', *teller))
-    return results
+    return all(results)
 
 
 def faults_found(program):
@@ -182,11 +183,11 @@ def samples_listed(listing):
 
 
 def eccodes(program):
-    """Valid files as ecCodes reads them. Where it cannot be had, that is said, and nothing is counted."""
+    """Valid files as ecCodes reads them. Where it cannot be had, that is told as skipped."""
     if not debian.has_header('eccodes.h'):
         debian.install(['libeccodes-dev'])
     if not debian.has_header('eccodes.h'):
-        print("ecCodes: SKIPPED. Debian's package libeccodes-dev could not be installed, and no file was compared with ecCodes.")
+        print(report.Skipped('valid files as ecCodes reads them', "Debian's package libeccodes-dev could not be installed"))
         return []
     reader = built('eccodes', *COMPILER, 'tests/peers/eccodes.c', '-leccodes')
     return [asked(program, 'eccodes', SEED, VALID_FILES, '--', reader)]
@@ -194,14 +195,13 @@ def eccodes(program):
 
 def whole():
     program = evidence()
-    results = decoder_tests() + [asked(program, 'told', RULES)] + compared(program)
+    results = decoder_tests() + [asked(program, 'told', RULES), compared(program)]
     results += [faults_found(program), mutants()]
     listing = program_of_kit('listing')
     results += [asked(program, 'listing', SEED, LISTINGS, '--', *listing), samples_listed(listing)]
     results.append(asked(program, 'rebuild', SEED, REBUILDS, '--', *program_of_kit('tests_ask')))
     results += [tried(program, name, SEED) for name in ('vectors', 'tests_ask')] + eccodes(program)
-    print('%d passed, %d failed' % (sum(results), len(results) - sum(results)))
-    return 0 if all(results) else 1
+    return report.ended(results)
 
 
 # ---- commands

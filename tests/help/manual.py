@@ -1,0 +1,24 @@
+"""What include/skeptolyr.h, which is the manual, says of refusals, for the suites that hold programs and pages to it."""
+import os
+import re
+
+from tools import TOP
+
+HEADER = os.path.join(TOP, 'include', 'skeptolyr.h')
+
+
+def text_of(path):
+    with open(path, encoding='utf-8') as text:
+        return text.read()
+
+
+def refusals():
+    """The header's refusals: constant, number, place, and the sentence that stands behind the constant in skeptolyr_refusal_text."""
+    sentences = dict(re.findall(r'^    case (\w+): return "(.*)";$', text_of(HEADER), re.M))
+    rows = re.findall(r'^    (SKEPTOLYR_\w+) = +(\d+),? +/\* (.*) \*/$', text_of(HEADER), re.M)
+    return [(name, int(number), place, sentences.get(name)) for name, number, place in rows]
+
+
+def refused(number, place):
+    """What a program of ours says of a refusal."""
+    return 'refused %d at %d. %s' % (number, place, refusals()[number - 1][3])
