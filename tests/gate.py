@@ -1,0 +1,296 @@
+"""The gate, tools/test, with suites that are made up: what its last lines say, how it ends, and what it leaves running. The last is asked of tools/sample
+too. And the tree as the gate sees it: every suite is run, no file goes looking for its neighbours, and no edit that must fail is passed over in part.
+It ends in 'N passed, M failed'.
+"""
+import os
+import re
+import shutil
+import signal
+import subprocess
+import sys
+import tempfile
+import time
+
+from tests.help import report
+from tests.suites import SUITES
+from tools import TOP
+
+# A suite is a module of Python: what it is, and how many tests the list says that it has.
+WELL = ('print("seen"); print("2 passed, 0 failed")', 2)
+FAILING = {
+    'none': ('print("0 passed, 0 failed")', 2),
+    'fewer': ('print("1 passed, 0 failed")', 2),
+    'more': ('print("3 passed, 0 failed")', 2),
+    'silent': ('pass', 2),
+    'dying': ('import os, signal; print("2 passed, 0 failed", flush=True); os.kill(os.getpid(), signal.SIGKILL)', 2),
+    'quitting': ('import sys; print("2 passed, 0 failed"); sys.exit(1)', 2),
+    'tailing': ('print("2 passed, 0 failed"); print("and more")', 2),
+    'failing': ('import sys; print("1 passed, 1 failed"); sys.exit(1)', 2),
+    'hiding': ('print("skipped: a, because b"); print("2 passed, 0 failed")', 2),
+}
+# How many passed and failed each of these adds, by its name.
+COUNTS = {'none': (0, 1), 'fewer': (1, 1), 'more': (3, 1), 'silent': (0, 1), 'dying': (2, 1), 'quitting': (2, 1), 'tailing': (0, 1), 'failing': (1, 1), 'hiding': (2, 1)}
+# Words of what the gate says of it.
+SAID = {
+    'none': 'it has 0 tests, and tests/suites.py says 2: find the test that is lost', 'fewer': 'it has 1 tests, and tests/suites.py says 2: find the test that is lost',
+    'more': 'it has 3 tests, and tests/suites.py says 2: write the new number there', 'silent': "not in a line 'N passed, M failed'", 'dying': 'status -9',
+    'quitting': 'status 1, and tells of no failure', 'tailing': "not in a line 'N passed, M failed'", 'hiding': 'it has 3 tests'}
+
+
+class Tree:
+    """A tree with the gate in it, a crate with one edit, a command rt, and suites that are made up."""
+
+    def __init__(self, folder, suites, rt='echo "2 passed, 0 failed"', setup='exit 0', shared=()):
+        self.folder = folder
+        for name in ('test', 'gate.py', '__init__.py'):
+            os.makedirs(os.path.join(folder, 'tools'), exist_ok=True)
+            shutil.copy(os.path.join(TOP, 'tools', name), os.path.join(folder, 'tools', name))
+        self.write('crates/one/must-fail/wrong.edit', '')
+        self.write('tests/__init__.py', '')
+        shutil.copy(os.path.join(TOP, 'tests', 'suites.py'), os.path.join(folder, 'tests', 'suites.py'))
+        listed = ['Suite(%r, %d, "suite %s", %d)' % (name, tests, name, *(more or (1,))) for name, (_, tests, *more) in suites.items()]
+        with open(os.path.join(folder, 'tests', 'suites.py'), 'a', encoding='utf-8') as text:
+            text.write('SUITES = [%s]\nSHARED = %r\n' % (', '.join(listed), list(shared)))
+        for name, (source, *_) in suites.items():
+            self.write('tests/%s.py' % name, source)
+        for name, script in (('tools/setup', setup), ('bin/rt', rt)):
+            self.write(name, '#!/bin/sh\n%s\n' % script)
+            os.chmod(os.path.join(folder, name), 0o755)
+
+    def write(self, name, text):
+        os.makedirs(os.path.dirname(os.path.join(self.folder, name)), exist_ok=True)
+        with open(os.path.join(self.folder, name), 'w', encoding='utf-8') as file:
+            file.write(text)
+
+    def start(self, tool='test'):
+        """A tool of the tree that runs, in a group of processes of its own."""
+        path = os.path.join(self.folder, 'bin') + ':' + os.environ['PATH']
+        command = [os.path.join(self.folder, 'tools', tool)]
+        return subprocess.Popen(command, stdout=subprocess.PIPE, stderr=subprocess.PIPE, text=True, env=dict(os.environ, PATH=path), start_new_session=True)
+
+    def ended(self):
+        """What it prints on both ways out, and its status."""
+        with self.start() as run:
+            out, said = run.communicate(timeout=60)
+        return out, said, run.returncode
+
+    def faults(self, lines, status):
+        """What is wrong if the gate does not end in these lines and with this status."""
+        out, said, ended = self.ended()
+        if out.split('\n')[-len(lines) - 1:-1] != lines:
+            yield 'it prints %r, and not last %r' % (out + said, lines)
+        if ended != status:
+            yield 'it ends with %d, and not with %d' % (ended, status)
+
+
+# ---- the gate
+
+def green(folder):
+    """Where every suite has its tests and passes, the last lines are 'nothing was skipped' and 'N passed, 0 failed', and it ends with 0."""
+    yield from Tree(folder, {'one': WELL, 'two': WELL}).faults(['nothing was skipped', '6 passed, 0 failed'], 0)
+
+
+def skipped(folder):
+    """What is skipped stands in the line before the last, counts as neither, and is no failure."""
+    skips = ('print("skipped: a terminal, because there is none"); print("1 passed, 0 failed")', 2)
+    lines = ['skipped: a terminal, because there is none; a terminal, because there is none', '6 passed, 0 failed']
+    yield from Tree(folder, {'one': skips, 'two': WELL, 'three': skips}).faults(lines, 0)
+
+
+def red(folder):
+    """A suite without tests, with fewer or more than the list says, that dies, that ends otherwise, that fails or that skips too much: each fails."""
+    suites = {name: suite for name, suite in FAILING.items()}
+    out, _, status = Tree(folder, suites).ended()
+    passed, failed = (sum(column) for column in zip((2, 0), *COUNTS.values()))
+    last = out.split('\n')[-2]
+    if last != '%d passed, %d failed' % (passed, failed) or status != 1:
+        yield 'it ends with %d and in %r' % (status, last)
+    shown = dict(re.findall(r'^== suite (\w+)\n(.*?)(?=\n\n)', out, re.M | re.S))
+    yield from ('%s: %r' % (name, shown.get(name)) for name in suites if name not in shown or SAID.get(name, '') not in shown[name])
+    if list(shown) != list(suites):
+        yield 'they are shown as %s' % list(shown)
+
+
+def rt_is_counted(folder):
+    """rt ci with fewer tests than there are crates and edits in the tree fails, and so does one that says nothing."""
+    for number, (rt, last) in enumerate([('echo "1 passed, 0 failed"', '3 passed, 1 failed'), ('exit 0', '2 passed, 1 failed'), ('echo "2 passed, 0 failed"; exit 2', '4 passed, 1 failed')]):
+        yield from Tree(os.path.join(folder, str(number)), {'one': WELL}, rt).faults(['nothing was skipped', last], 1)
+
+
+def what_is_shared_is_built(folder):
+    """What cannot be set up or built fails, though every suite passes."""
+    yield from Tree(os.path.join(folder, 'built'), {'one': WELL}, shared=[('tests.none_such',)]).faults(['nothing was skipped', '4 passed, 1 failed'], 1)
+    yield from Tree(os.path.join(folder, 'setup'), {'one': WELL}, setup='exit 2').faults(['skipped: every test, because tools/setup failed', '0 passed, 1 failed'], 1)
+
+
+# A suite that waits for the other to start. Alone, it waits in vain and fails.
+MEETS = '''
+import os, time
+open(%r, "w").close()
+deadline = time.monotonic() + 5
+while not os.path.exists(%r) and time.monotonic() < deadline:
+    time.sleep(0.01)
+met = os.path.exists(%r)
+open(%r, "w").close()
+print("1 passed, 0 failed" if met else "0 passed, 1 failed")
+'''
+# A suite that fails where another runs when it starts, or starts while it runs.
+ALONE = '''
+import glob, time
+def running():
+    return len(glob.glob(%r)) - len(glob.glob(%r))
+before = running()
+time.sleep(0.2)
+print("0 passed, 1 failed" if before or running() else "1 passed, 0 failed")
+'''
+
+
+def beside_each_other(folder):
+    """Suites that keep one processor busy run two at a time, and one that keeps two busy runs alone."""
+    def mark(name):
+        return os.path.join(folder, name)
+
+    def meets(one, other):
+        return MEETS % (mark(one + '.start'), mark(other + '.start'), mark(other + '.start'), mark(one + '.end')), 1
+
+    suites = {'one': meets('one', 'other'), 'wide': (ALONE % (mark('*.start'), mark('*.end')), 1, 2), 'other': meets('other', 'one')}
+    yield from Tree(mark('tree'), suites).faults(['nothing was skipped', '5 passed, 0 failed'], 0)
+
+
+# A suite that starts a process of its own, tells its number, and never ends.
+ENDLESS = '''
+import subprocess, time
+child = subprocess.Popen(["sleep", "1000"])
+print("child %d" % child.pid, flush=True)
+child.wait()
+'''
+
+
+def runs_on(process):
+    """Does a process run that should have ended? It is ended now, so that a failure of this test leaves nothing behind."""
+    try:
+        with open('/proc/%d/stat' % process, encoding='ascii') as stat:
+            is_ended = stat.read().rsplit(')', 1)[1].split()[0] == 'Z'
+        os.kill(process, signal.SIGKILL)
+        return not is_ended
+    except (FileNotFoundError, ProcessLookupError):
+        return False
+
+
+def interrupted(folder):
+    """Ctrl-C, or the end of the terminal, ends it and all that it has started, and it says so in one line and decides nothing."""
+    for number in (signal.SIGINT, signal.SIGHUP, signal.SIGTERM):
+        run = Tree(os.path.join(folder, str(int(number))), {'endless': (ENDLESS, 1)}).start()
+        children = []
+        for line in run.stdout:
+            children += [int(word) for word in re.findall(r'^child (\d+)$', line)]
+            if children:
+                run.send_signal(number)
+                break
+        out, said = run.communicate(timeout=30)
+        if run.returncode != 130 or len(said.split('\n')) != 3 or 'interrupted' not in said or 'passed' in out:
+            yield 'signal %d: it ends with %d and says %r' % (number, run.returncode, out + said)
+        if not children or any([runs_on(child) for child in children]):
+            yield 'signal %d: what it started runs on: %s' % (number, children)
+
+
+# A command rt that proves for ever, in a process of its own whose number it tells in the file `proving`.
+PROVING = '''
+[ "$1" = check ] || exit 0
+sleep 1000 &
+echo $! >"$(dirname "$0")/proving.part"
+mv "$(dirname "$0")/proving.part" "$(dirname "$0")/proving"
+wait
+'''
+
+
+def sample_is_interrupted(folder):
+    """Ctrl-C while tools/sample proves ends it and what it has started, and it says so in one line and no more."""
+    tree, told = Tree(folder, {}, rt=PROVING), os.path.join(folder, 'bin', 'proving')
+    for name in ('sample', 'archive.py', 'built.py', 'module.py'):
+        shutil.copy(os.path.join(TOP, 'tools', name), os.path.join(folder, 'tools', name))
+    tree.write('crates.txt', 'listing: skeptolyr\nskeptolyr:\n')
+    run = tree.start('sample')
+    deadline = time.monotonic() + 30
+    while not os.path.exists(told) and run.poll() is None and time.monotonic() < deadline:
+        time.sleep(0.01)
+    # A terminal sends it to every process of the group.
+    os.killpg(run.pid, signal.SIGINT)
+    try:
+        out, said = run.communicate(timeout=10)
+    except subprocess.TimeoutExpired:
+        run.kill()
+        out, said = 'nothing for', 'ten seconds'
+    if (run.returncode, out, said) != (130, '', 'proving and building skeptolyr\nsample: interrupted\n'):
+        yield 'it ends with %d and says %r' % (run.returncode, out + said)
+    if not os.path.exists(told):
+        yield 'it has not started to prove'
+        return
+    with open(told, encoding='ascii') as process:
+        if runs_on(int(process.read())):
+            yield 'what it started runs on'
+
+
+# ---- the tree
+
+def tracked(*endings):
+    said = subprocess.run(['git', 'ls-files', '--cached', '--others', '--exclude-standard'], cwd=TOP, stdout=subprocess.PIPE, text=True, check=True).stdout
+    return [name for name in said.split('\n')[:-1] if name.endswith(endings) and os.path.exists(os.path.join(TOP, name))]
+
+
+def lines_of(name):
+    with open(os.path.join(TOP, name), encoding='utf-8') as text:
+        return text.read().split('\n')
+
+
+def every_suite_is_run():
+    """Each module that stands directly in tests/ is a suite of the list, and each folder that can be run is one or is told of in tests/README.md."""
+    files = {name.split('/')[1][:-3] for name in tracked('.py') if name.startswith('tests/') and name.count('/') == 1} - {'__init__', 'suites'}
+    folders = {name.split('/')[1] for name in tracked('/__main__.py') if name.startswith('tests/')}
+    listed = {suite.name for suite in SUITES}
+    yield from ('tests/%s.py is no suite of tests/suites.py' % name for name in sorted(files - listed))
+    yield from ('tests/suites.py: there is no tests/%s' % name for name in sorted(listed - files - folders))
+    told = re.findall(r'^\| tests/(\w+) \|', '\n'.join(lines_of('tests/README.md')), re.M)
+    places = {name.split('/')[1] for name in tracked('') if name.startswith('tests/') and name.count('/') > 1}
+    yield from ('tests/README.md does not tell of tests/%s, or tells of what is not there' % name for name in sorted(places ^ set(told)))
+
+
+def nobody_looks_for_neighbours():
+    """No module edits the path that Python looks along: all are run from the top of the tree, and import from there."""
+    word = 'sys' + '.path'
+    for name in tracked('.py'):
+        yield from ('%s:%d' % (name, number) for number, line in enumerate(lines_of(name), 1) if word in line)
+
+
+def nothing_reaches_into_tests():
+    """Nothing that users run needs what tests are made of: in tools/, the gate alone names a module of tests/."""
+    for name in tracked(''):
+        if name.startswith('tools/') and name not in ('tools/gate.py', 'tools/test'):
+            yield from ('%s:%d' % (name, number) for number, line in enumerate(lines_of(name), 1) if re.search(r'\btests[./]\w', line))
+
+
+def edits_are_whole():
+    """Each file of must-fail/ is an edit that rt tries in full: it would pass over one of another name, an old line without its new one, and a second line."""
+    for name in tracked(''):
+        if '/must-fail/' not in name:
+            continue
+        kinds = ''.join('#' if line.startswith('#') else (re.match(r'(file|old|new):(?: |$)', line) or ['?'])[0][0] for line in lines_of(name) if line)
+        if not name.endswith('.edit') or not re.fullmatch(r'#+(f(on)+)+', kinds):
+            yield '%s: its lines are %s' % (name, kinds)
+
+
+GATE = [green, skipped, red, rt_is_counted, what_is_shared_is_built, beside_each_other, interrupted, sample_is_interrupted]
+TREE = [every_suite_is_run, nobody_looks_for_neighbours, nothing_reaches_into_tests, edits_are_whole]
+
+
+def tried(test):
+    with tempfile.TemporaryDirectory() as folder:
+        return report.tried(test, folder)
+
+
+def main():
+    return report.ended([tried(test) for test in GATE] + [report.tried(test) for test in TREE])
+
+
+if __name__ == '__main__':
+    sys.exit(main())

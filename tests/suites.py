@@ -1,0 +1,35 @@
+"""The suites that `make test` runs beside `rt ci`, in the order in which they are shown, and how many tests each has.
+
+The numbers stand here and not in the suites, so that a suite which loses a test is noticed: a suite with fewer tests than this, or with more, fails.
+Whoever adds a test or takes one away writes the new number here.
+"""
+from typing import NamedTuple
+
+
+class Suite(NamedTuple):
+    """A module of tests/, the number of its tests, what it is called when it is shown, and how many processors it keeps busy."""
+    name: str
+    tests: int
+    what: str
+    processors: int = 1
+
+
+SUITES = [
+    Suite('gate', 12, 'the gate itself, with suites that lose tests, die, skip and fail'),
+    Suite('house', 20, 'the rules of the house'),
+    Suite('header', 10, 'the header, which is the manual, against the rules and the proved definition'),
+    Suite('leaves', 6, 'the leaf layers against computations of their own'),
+    Suite('tiling', 3, 'the archive that C links against an independent reading'),
+    Suite('fields', 7, 'descriptions, places and listings against an independent reading'),
+    Suite('decoding', 12, 'every double and every presence against an independent reading'),
+    Suite('evidence', 56, 'the independent decoder, on files made and damaged by the hundred thousand', processors=2),
+    Suite('samples', 21, 'the samples: one of each refusal, put to the example programs'),
+    Suite('drawing', 9, 'pictures of fields, pixel by pixel'),
+    Suite('install', 18, 'what make install installs, and its pages against the header'),
+    Suite('readme', 3, 'the README: what its commands print, and its picture'),
+]
+
+# What several suites use, by the module that builds it and the words it is given. It is built before they start, so that no two of them build it at once.
+SHARED = [
+    ('tools.module', 'skeptolyr'), ('tools.module', 'tests_tell'), ('tools.built', 'library', 'skeptolyr'), ('tools.built', 'library', 'tests_tell'),
+    ('tools.built', 'program', 'listing'), ('tools.built', 'program', 'tests_ask')]
