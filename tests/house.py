@@ -8,7 +8,8 @@ from tests.help import believed, report
 
 TOP = os.path.dirname(os.path.dirname(os.path.abspath(__file__)))
 os.chdir(TOP)
-FILES = sorted(subprocess.run(['git', 'ls-files', '--cached', '--others', '--exclude-standard'], capture_output=True, text=True, check=True).stdout.split('\n')[:-1])
+TRACKED = subprocess.run(['git', 'ls-files', '--cached', '--others', '--exclude-standard'], capture_output=True, text=True, check=True)
+FILES = sorted(TRACKED.stdout.split('\n')[:-1])
 FILES = [name for name in FILES if os.path.exists(name)]
 
 
@@ -165,59 +166,129 @@ def code_stands_on_code():
                 yield 'crates.txt: %s stands on %s' % (name, under)
 
 
+def public_functions():
+    """The public functions of the libraries, from every file of src/, as CRATE.FUNCTION or CRATE.MODULE.FUNCTION: the file and the contract of each."""
+    found = {}
+    for name in sources('.rt'):
+        crate, folder, module = re.match(r'crates/([a-z0-9_]+)/(\w+)/(.*)\.rt$', name).groups()
+        if folder == 'src' and 'crates/%s/src/lib.rt' % crate in FILES:
+            here = believed.file_of(name[len('crates/'):])
+            within = [] if module == 'lib' else module.split('/')
+            for function in filter(here.is_contract, here.defined):
+                found['.'.join([crate] + within + [function])] = (name, [here.lines[number] for number in here.defined[function]])
+    return found
+
+
 def nothing_asked_of_users():
     """No function that docs/DEMANDS.md lists as called by users has a `requires`, and every one that C calls is listed."""
-    text = '\n'.join(lines_of('docs/DEMANDS.md'))
-    users = set(re.findall(r'`(\w+::\w+)`', text.split('## What carries')[1].split('\n## ')[0]))
-    for name in sources('lib.rt'):
-        crate = name.split('/')[1]
-        for kind, function, contract in re.findall(r'^pub (extern "C" )?fn (\w+)(.*?)^\{', '\n'.join(lines_of(name)), re.M | re.S):
-            called = '%s::%s' % (crate, function)
-            if kind and called not in users:
-                yield '%s: %s is not listed' % (name, called)
-            if called in users and 'requires' in contract:
-                yield '%s: %s asks something' % (name, called)
-            users.discard(called)
+    users = believed.users()
+    for function, (name, contract) in public_functions().items():
+        called = '::'.join((function.split('.')[0], function.split('.')[-1]))
+        if 'extern "C"' in contract[0] and called not in users:
+            yield '%s: %s is not listed' % (name, called)
+        if called in users and any('requires' in line for line in contract):
+            yield '%s: %s asks something' % (name, called)
+        users.discard(called)
     for called in sorted(users):
         yield 'docs/DEMANDS.md: no function %s' % called
 
 
+# The functions whose answer is a part of the file, of which the octets are seen, and not where they lie: docs/DEMANDS.md, "Any two outcomes are equal".
+SEEN = {'section.octets_in': '_ (λ _. now)', 'section_6.bitmap_in': '_ (λ _. now)'}
+
+
+def outcome_of(function):
+    """The one line by which crates/theorems_outcomes may state that a function's outcomes are determined."""
+    crate, rest = function.split('.', 1)
+    called = '%s.%s' % (crate.replace('_', '-'), rest)
+    said = ('SeenDetermined %s.ended ' + SEEN[function] if function in SEEN else 'Determined %s.ended') % called
+    return 'pub %s : %s (λ _. %s.clauses)' % (re.sub('[._]', '-', called), said, called)
+
+
 def outcomes_are_determined():
-    """Every public function of a library has its theorem in crates/theorems_outcomes, of its own contract, and every theorem there has its function."""
-    functions, theorems = {}, {}
+    """Every public function of a library has its theorem in crates/theorems_outcomes, of its own contract and word for word, and there is no other."""
+    wanted = {outcome_of(function): name for function, (name, _) in public_functions().items()}
     for name in FILES:
-        crate = re.match(r'crates/([a-z0-9_]+)/src/lib\.rt$', name)
-        for number, line in enumerate(lines_of(name) if crate else [], 1):
-            function = re.match(r'\s*pub (?:extern "C" )?fn (\w+)', line)
-            if function:
-                functions['%s.%s' % (crate.group(1), function.group(1))] = '%s:%d' % (name, number)
-        for number, line in enumerate(lines_of(name) if name.startswith('crates/theorems_outcomes/proofs/') else [], 1):
+        if not re.match(r'crates/theorems_outcomes/proofs/\w+\.antt$', name):
+            continue
+        here = believed.file_of(name[len('crates/'):])
+        for number, line in enumerate(here.lines, 1):
             use = re.match(r'use Rattle·(\w+)\.proofs as (\S+)$', line)
             if use and use.group(2) != use.group(1).replace('_', '-'):
                 yield '%s:%d: %s stands for %s' % (name, number, use.group(2), use.group(1))
-            theorem = re.match(r'pub (\S+) : (?:Seen)?Determined ([\w-]+\.\w+)\.ended .*\(λ _\. ([\w-]+\.\w+)\.clauses\)$', line)
-            if theorem:
-                crate, function = theorem.group(2).split('.')
-                theorems['%s.%s' % (crate.replace('-', '_'), function)] = '%s:%d' % (name, number)
-                if theorem.group(1) != re.sub('[._]', '-', theorem.group(2)) or theorem.group(3) != theorem.group(2):
-                    yield '%s:%d: %s is of %s and %s' % ((name, number) + theorem.groups())
-    for function in sorted(set(functions) ^ set(theorems)):
-        yield '%s: %s' % ((functions[function], 'no theorem') if function in functions else (theorems[function], 'no such function'))
+            if 'Determined ' in line and not line.startswith('--') and line not in wanted:
+                yield '%s:%d: no theorem that is asked for: %s' % (name, number, line)
+            wanted.pop(line, None)
+        for word in ('Determined', 'SeenDetermined', 'now'):
+            if word in here.defined or (word in here.brought and here.brought[word] != ('theorems_outcomes/specs/Determined.antt', word)):
+                yield '%s: %s is not what it is called' % (name, word)
+        if 'SeenDetermined' in here.brought and 'use denote.Ref.{now}' not in here.lines:
+            yield '%s: no `use` line brings `now`' % name
+    for line, name in sorted(wanted.items()):
+        yield '%s: no theorem: %s' % (name, line)
+
+
+# The theorems that the demands are, each with the file of its proof and its whole statement.
+STATEMENTS = {
+    'demand-1': ('theorems_demands/proofs/Demand1.antt', ['pub demand-1 : (file : List ℕ) → Demand1 file']),
+    'demand-2': ('theorems_demands/proofs/Demand2.antt', ['pub demand-2 : (file : List ℕ) → Demand2 file']),
+    'demand-3': ('theorems_demands/proofs/Demand3.antt', ['pub demand-3 : (file : List ℕ) → Demand3 file']),
+    'rebuild-meets': ('theorems_demands/proofs/Rebuild.antt', ['module _ (r : ℕ) (e d x : Signed) where', '  pub rebuild-meets : Rebuilds r e d x']),
+    'no-impostor': ('theorems_demands/proofs/Impostors.antt', ['pub no-impostor : NoImpostor']),
+    'examples': ('theorems_demands/proofs/Examples.antt', ['pub examples : Examples']),
+}
+
+
+def demands_are_stated():
+    """The theorems of the demands stand in proofs/ word for word, speak of the definitions in specs/, and are among what is checked."""
+    for theorem, (name, statement) in STATEMENTS.items():
+        if (name, theorem) not in believed.cited('docs/DEMANDS.md'):
+            yield 'docs/DEMANDS.md: %s is not cited' % theorem
+        crate, module = name.split('/')[0], name.split('/')[-1][:-len('.antt')]
+        if 'crates/' + name not in FILES or crate not in listed() or 'pub mod ' + module not in lines_of('crates/%s/proofs/Lib.antt' % crate):
+            yield '%s: not among the files that are checked' % name
+            continue
+        here = believed.file_of(name)
+        told = [here.lines[number] for number in here.numbers(theorem)] if theorem in here.defined else []
+        if told != statement:
+            yield '%s: %s is stated as: %s' % (name, theorem, ' '.join(told))
+        if here.lines.count(statement[-1]) != 1:
+            yield '%s: stated %d times' % (theorem, here.lines.count(statement[-1]))
+        for word in sorted(set(re.findall(r'\b[A-Z]\w+', statement[-1])) - {'List'}):
+            if here.meant(word) is None or not here.meant(word)[0].startswith(crate + '/specs/'):
+                yield '%s: %s is not that of specs/' % (name, word)
+
+
+def promises_stand_in_specs():
+    """No theorem that docs/DEMANDS.md or docs/TRUST.md cites is told in what is defined in proofs/."""
+    for name, theorem, word in believed.told_in_proofs():
+        yield 'crates/%s: %s is told in %s' % (name, theorem, word)
+
+
+def definitions_are_read():
+    """Every line of specs/ is one that tests/believed.py reads, and names nothing of proofs/ but contracts, so that nothing is believed and not counted."""
+    for name in sources('.antt'):
+        if name.split('/')[2] == 'specs':
+            here = believed.file_of(name[len('crates/'):])
+            read = {number for definition in here.defined for number in here.numbers(definition)}
+            for number, line in enumerate(here.lines):
+                use = believed.USE.match(line)
+                if believed.is_counted(line) and number not in read:
+                    yield '%s:%d' % (name, number + 1)
+                if 'Rattle·' in line and not re.match(r'use Rattle·\w+\.proofs as \S+$', line) and not (use and use.group(2) == 'specs'):
+                    yield '%s:%d: %s' % (name, number + 1, line)
 
 
 def trust_is_counted():
-    """docs/TRUST.md tells the believed lines of each file, and it and the README their sum, as tests/help/believed.py counts them, and those of all definitions."""
-    text = '\n'.join(lines_of('docs/TRUST.md'))
-    rows = believed.table()
-    if '%d lines of definitions' % sum(count for _, count in rows) not in ' '.join(lines_of('README.md')):
-        yield 'README.md: not there: %d lines of definitions' % sum(count for _, count in rows)
-    wanted = ['| %s | %d |' % row for row in rows] + ['%d lines of\ndefinitions in %d files' % (sum(count for _, count in rows), len(rows)), 'Of the %d such lines' % believed.all_lines()]
-    for row in wanted:
-        if row not in text:
-            yield 'docs/TRUST.md: not there: ' + row.replace('\n', ' ')
-    for row in re.findall(r'^\| [a-z0-9_]+/specs/.*\|$', text, re.M):
-        if row not in wanted:
-            yield 'docs/TRUST.md: not so: ' + row
+    """docs/TRUST.md tells the believed lines of each file, their sum, and the other counts of tests/help/believed.py; the README tells the sum."""
+    wanted = {'| %s | %d |' % row for row in believed.table()}
+    told = {line for line in lines_of('docs/TRUST.md') if re.match(r'\| [a-z0-9_]+/(specs|proofs|src)/', line)}
+    for row in sorted(wanted ^ told):
+        yield 'docs/TRUST.md: %s: %s' % ('not there' if row in wanted else 'not so', row)
+    total = '%d lines' % sum(count for _, count in believed.table())
+    for name, words in [('docs/TRUST.md', words) for words in believed.counts()] + [('README.md', total)]:
+        if not re.search(r'\b%s\b' % words, ' '.join(lines_of(name))):
+            yield '%s: not there: %s' % (name, words)
 
 
 def demands_name_what_is_there():
@@ -227,9 +298,9 @@ def demands_name_what_is_there():
     named = set(re.findall(r'`([a-z0-9_]+/[a-z0-9_]+)`', text))
     for edit in sorted(edits ^ named):
         yield 'docs: %s %s' % (edit, 'is not named' if edit in edits else 'is no edit')
-    for crate, function in sorted(set(re.findall(r'`([a-z0-9_]+)::(\w+)`', text))):
-        name = 'crates/%s/src/lib.rt' % crate
-        if name in FILES and not any(re.match(r'pub (extern "C" )?fn %s\b' % function, line) for line in lines_of(name)):
+    functions = {(function.split('.')[0], function.split('.')[-1]) for function in public_functions()}
+    for crate, function in sorted(set(re.findall(r'`([a-z0-9_]+)::(\w+)`', text)) - functions):
+        if crate in listed():
             yield 'docs: no function %s::%s' % (crate, function)
     for names, file in re.findall(r'((?:`[^`]+`,? )+)\(([a-z0-9_]+/(?:specs|proofs)/\w+\.antt)\)', text):
         lines = lines_of('crates/' + file) if 'crates/' + file in FILES else []
@@ -293,7 +364,12 @@ def own_words():
                 yield '%s:%d' % (name, number)
 
 
-RULES = [crates_are_listed, lowest_first, sources_in_crates, layout, must_fail_edits, opening_comments, printed_places, unused_names, short_functions, contracts_fit, names_mean_one_thing, code_stands_on_code, nothing_asked_of_users, outcomes_are_determined, trust_is_counted, demands_name_what_is_there, evidence_is_counted, version_is_told, sample_is_the_sample, own_words]
+RULES = [
+    crates_are_listed, lowest_first, sources_in_crates, layout, must_fail_edits, opening_comments, printed_places, unused_names, short_functions,
+    contracts_fit, names_mean_one_thing, code_stands_on_code, nothing_asked_of_users, outcomes_are_determined, demands_are_stated,
+    promises_stand_in_specs, definitions_are_read, trust_is_counted, demands_name_what_is_there, evidence_is_counted, version_is_told,
+    sample_is_the_sample, own_words,
+]
 
 
 def main():

@@ -1,8 +1,9 @@
 """Counts what is believed: the lines that whoever relies on the promises has to read, and no others, by file.
 
-It starts from the promises: the definitions of ROOTS, the contracts of the functions that users call, and the statements of the theorems that docs/DEMANDS.md
-cites. It goes on to every definition that one of them names, and to those that these name. It stops at the names that the contracts cite and that theorems
-characterise (PINNED), so that nobody needs to read how these are defined. The structs and enums that are named on the way are counted by themselves."""
+It starts from the promises: all definitions of the crates of theorems, the contracts of the functions that users call, and the statements of the theorems that
+docs/DEMANDS.md cites. It goes on to every definition that one of them names, and to those that these name. It stops at the names that the contracts cite and
+that theorems characterise (PINNED), so that nobody needs to read how these are defined. The structs and enums that are named on the way are counted by
+themselves."""
 import functools
 import glob
 import os
@@ -11,8 +12,6 @@ import sys
 
 TOP = os.path.dirname(os.path.dirname(os.path.dirname(os.path.abspath(__file__))))
 
-# The crates and files of specs/ in which every definition is a promise, or the table or the sample that a promise is told in.
-ROOTS = ['theorems_demands', 'theorems_calls', 'theorems_limits', 'theorems_outcomes', 'skeptolyr', 'listing_file']
 # What check, describe, place, decode and rebuild_one answer, and what decode leaves in the runs: demands 1, 2 and 3 say what they are.
 PINNED = {
     'tiling/specs/Tiling.antt': {'check'},
@@ -21,13 +20,15 @@ PINNED = {
     'question_decode/specs/Decoding.antt': {'answer', 'valuesLeft', 'presenceLeft'},
     'doubles/specs/Doubles.antt': {'rebuildOne', 'valueOf'},
 }
-# The function that the program `listing` calls for all that it prints. It asks for a run of a certain length, so that docs/DEMANDS.md lists the program instead.
+# The function that the program `listing` calls for all that it prints: docs/DEMANDS.md lists the program, since this one asks for a run that is long enough.
 LISTING = 'listing_file::list'
 
 HEAD = re.compile(r'\s*(?:(?:abbrev|unfoldable) )?(?:pub )?(?:(?:record|data) )?([^\s():]+)(?: \([^)]*\)| \{[^}]*\})* :(?: |$)')
 OPENS = re.compile(r'\s*(?:abbrev |unfoldable |pub |record |data )')
 FUNCTION = re.compile(r'\s*pub (?:extern "C" )?fn (\w+)')
 SHAPE = re.compile(r'\s*pub (?:struct|enum) (\w+)')
+USE = re.compile(r'(?:ghost )?use Rattle·(\w+)(?:·\w+)?\.(specs|proofs)\.(.*?)(?:\.\{(.*)\})?(?: as (\S+?))?;?$')
+CLAUSE = re.compile(r'\s*(?:requires|ensures) ')
 
 
 def depth(line):
@@ -62,7 +63,7 @@ class File:
     def read_use(self, line):
         """Notes what a `use` line of ours brings: a file and a name in it, or a file under another name. A struct or an enum comes from its crate's src/."""
         own = re.match(r'use (\w+)::(\w+);', line)
-        use = re.match(r'(?:ghost )?use Rattle·(\w+)(?:·\w+)?\.(specs|proofs)\.(.*?)(?:\.\{(.*)\})?(?: as (\S+?))?;?$', line)
+        use = USE.match(line)
         if own:
             self.brought[own.group(2)] = (own.group(1) + '/src', own.group(2))
         if not use:
@@ -101,19 +102,19 @@ class File:
     def note_case(self, name, line):
         """The cases of a data: who names one of them has to read the whole."""
         case = re.match(r'\s+([^\s():]+) :', line)
-        if case and self.within(name, line) and ' data ' in self.lines[self.defined[name][0]]:
+        if case and self.within(name, line) and 'data ' in self.lines[self.defined[name][0]]:
             self.cases[case.group(1)] = name
 
     def within(self, name, line):
         """Is it a field or a case of the record or the data that was opened last?"""
         opening = self.lines[self.defined[name][0]] if name else ''
-        return bool(re.match(r'\s*pub (record|data) ', opening)) and depth(line) > depth(opening)
+        return bool(re.match(r'\s*(pub )?(record|data) ', opening)) and depth(line) > depth(opening)
 
     def read_statements(self):
-        """The public theorems and definitions of a file of proofs/: of a theorem, its statement alone."""
+        """The theorems of a file of proofs/, each by its statement alone, and what else is defined there."""
         outer, name = None, None
         for number, line in enumerate(self.lines):
-            head = re.match(r'\s*(?:abbrev |unfoldable )?pub (?:record |data )?(\S+)(?: [({].*[)}])? :', line)
+            head = re.match(r'(?:  )?(?:abbrev |unfoldable )?(?:pub )?(?:record |data )?([^\s():]+)(?: [({].*[)}])? :', line)
             if re.match(r'module ', line):
                 outer, name = number, None
             elif head:
@@ -132,39 +133,42 @@ class File:
             if head:
                 name = head.group(1)
                 self.define(name, number, None)
-            elif name and line.strip() and not line.startswith('{') and not is_comment(line):
+            elif name and line.strip() and not line.lstrip().startswith('{') and not is_comment(line):
                 self.defined[name].append(number)
-            if line.startswith(('{', '}')) or (head and line.endswith((';', '{')) and FUNCTION.match(line)) or not line.strip():
+            if line.startswith('}') or line.lstrip().startswith('{') or line.endswith(';') or (FUNCTION.match(line) and line.endswith('{')):
                 name = None
 
     def is_contract(self, name):
         return bool(FUNCTION.match(self.lines[self.defined[name][0]]))
 
     def numbers(self, name):
-        """The numbers of its lines, with the line of the module that gives it parameters."""
-        return ([self.modules_at[name]] if name in self.modules_at else []) + self.defined[name]
+        """The numbers of its lines, with the line of the module that gives it parameters, and without clauses that a theorem makes needless."""
+        own = self.defined[name]
+        if self.name.endswith('.rt') and '%s::%s' % (self.crate, name) in characterised():
+            own = [number for number in own if not CLAUSE.match(self.lines[number])]
+        return ([self.modules_at[name]] if name in self.modules_at else []) + own
 
     def words(self, name):
         """The words that it says: of Rattle, the types, and all words of a clause."""
         found = set()
         for line in (self.lines[number] for number in self.numbers(name)):
-            rattle = self.name.endswith('.rt') and not re.match(r'\s*(requires|ensures) ', line)
+            rattle = self.name.endswith('.rt') and not CLAUSE.match(line)
             found |= set(re.findall(r'\b[A-Z]\w*', line) if rattle else re.split(r'[\s(){};,]+', line))
         return found
 
     def meant(self, word):
         """The file and the name that a word stands for, where it is one of ours."""
         first, _, rest = word.partition('.')
+        if not self.name.endswith('.rt') and (word in self.defined or word in self.cases):
+            return (self.name, word)
         if word in self.brought:
             return self.brought[word]
-        if word in self.defined or word in self.cases:
-            return (self.name, word)
         if rest and first in self.modules:
             target, shape = self.modules[first]
             return (target, shape or rest)
-        if rest and first in self.defined:
-            return (self.name, first)
-        return (self.crate + '/src', first) if self.name.endswith('.rt') else None
+        if self.name.endswith('.rt'):
+            return (self.crate + '/src', word)
+        return (self.name, first) if rest and first in self.defined else None
 
     def comment(self, number):
         """The lines of the comment right above a line."""
@@ -189,6 +193,17 @@ def home_of(crate, shape):
     return None
 
 
+@functools.lru_cache(None)
+def characterised():
+    """The functions of whose contracts a definition of the crates of theorems speaks, as CRATE::FUNCTION: it tells in relations what their clauses say."""
+    found = set()
+    for path in glob.glob(os.path.join(TOP, 'crates', 'theorems_*', 'specs', '*.antt')):
+        text = '\n'.join(read(path))
+        crates = {alias: crate for crate, alias in re.findall(r'^use Rattle·(\w+)\.proofs as (\S+)$', text, re.M)}
+        found |= {'%s::%s' % (crates[alias], function) for alias, function in re.findall(r'([\w-]+)\.(\w+)\.clauses', text) if alias in crates}
+    return found
+
+
 def users():
     """The functions that docs/DEMANDS.md lists as called by users and tests, as CRATE::FUNCTION."""
     text = '\n'.join(read('docs/DEMANDS.md'))
@@ -196,17 +211,31 @@ def users():
 
 
 def promised():
-    """The promises: the definitions of ROOTS, the contracts of what users call, and the statements that docs/DEMANDS.md cites from proofs/."""
-    for root in ROOTS:
-        for path in sorted(glob.glob(os.path.join(TOP, 'crates', root, 'specs', '*.antt'))):
-            name = '%s/specs/%s' % (root, os.path.basename(path))
-            yield from ((name, definition) for definition in file_of(name).defined)
+    """The promises: all definitions of the crates of theorems, the contracts of what users call, and the statements that docs/DEMANDS.md cites from proofs/."""
+    for path in sorted(glob.glob(os.path.join(TOP, 'crates', 'theorems_*', 'specs', '*.antt'))):
+        name = os.path.relpath(path, os.path.join(TOP, 'crates'))
+        yield from ((name, definition) for definition in file_of(name).defined)
     for function in sorted(users() | {LISTING}):
         crate, called = function.split('::')
-        if not crate.startswith('tests_'):
+        if not crate.startswith('tests_') and home_of(crate, called):
             yield (home_of(crate, called), called)
-    for names, name in re.findall(r'((?:`[^`]+`,? )+)\(([a-z0-9_]+/proofs/\w+\.antt)\)', '\n'.join(read('docs/DEMANDS.md'))):
-        yield from ((name, theorem) for theorem in re.findall(r'`([^`]+)`', names))
+    yield from cited('docs/DEMANDS.md')
+
+
+def cited(page):
+    """The theorems that a page cites from proofs/ and that are there, as pairs of a file and a name. That all are there is a rule of tests/house.py."""
+    for names, name in re.findall(r'((?:`[^`]+`,? )+)\(([a-z0-9_]+/proofs/\w+\.antt)\)', '\n'.join(read(page))):
+        if os.path.exists(os.path.join(TOP, 'crates', name)):
+            yield from ((name, theorem) for theorem in re.findall(r'`([^`]+)`', names) if theorem in file_of(name).defined)
+
+
+def told_in_proofs():
+    """The theorems that are cited and whose statement names what is defined in proofs/, where no promise stands: each with that name."""
+    for name, theorem in sorted(set(cited('docs/DEMANDS.md')) | set(cited('docs/TRUST.md'))):
+        for word in sorted(file_of(name).words(theorem)):
+            target, meant = file_of(name).meant(word) or ('', '')
+            if '/proofs/' in target and meant != theorem and meant in file_of(target).defined:
+                yield (name, theorem, word)
 
 
 @functools.lru_cache(None)
@@ -218,7 +247,8 @@ def believed(pinned=True):
         name = home_of(name[:-4], definition) if name.endswith('/src') else name
         if name is None or (pinned and definition in PINNED.get(name, ())):
             return
-        definition = file_of(name).cases.get(definition, definition)
+        if definition not in file_of(name).defined:
+            definition = file_of(name).cases.get(definition)
         if definition in file_of(name).defined and (name, definition) not in found:
             found.add((name, definition))
             waiting.append((name, definition))
@@ -258,8 +288,8 @@ def texts(pairs):
         if outer is not None and (name, outer) not in opened:
             opened.add((name, outer))
             yield (name, 'module', here.comment(outer), [here.lines[outer]])
-        numbers = here.defined[definition]
-        yield (name, definition, here.comment(numbers[0]), here.lines[numbers[0]:numbers[-1] + 1])
+        first, last = here.defined[definition][0], here.numbers(definition)[-1]
+        yield (name, definition, here.comment(first), here.lines[first:last + 1])
 
 
 def definitions():
@@ -295,25 +325,39 @@ def without_theorems():
     return sum(count for _, count in counted(pair for pair in believed(pinned=False) if not is_shape(*pair)))
 
 
+def is_counted(line):
+    """Is it a line of a definition, and neither blank nor a comment nor a line that brings names or files?"""
+    return bool(line.strip()) and not re.match(r'\s*--|use |(pub )?mod ', line)
+
+
 def all_lines():
     """How many lines of definitions all of specs/ has, believed or not, counted in the same way."""
     files = glob.glob(os.path.join(TOP, 'crates', '*', 'specs', '**', '*.antt'), recursive=True)
-    lines = (line for name in files for line in open(name, encoding='utf-8'))
-    return sum(1 for line in lines if line.strip() and not re.match(r'\s*--|use |(pub )?mod ', line))
+    return sum(1 for name in files for line in open(name, encoding='utf-8') if is_counted(line))
+
+
+def counts():
+    """The counts that docs/TRUST.md tells in its sentences, in their words."""
+    rows, types = table(), shape_table()
+    part = {folder: sum(count for name, count in rows if '/%s/' % folder in name) for folder in ('specs', 'src', 'proofs')}
+    return [
+        '%d lines in %d files' % (sum(part.values()), len(rows)),
+        '%d of the %d lines of definitions' % (part['specs'], all_lines()),
+        '%d lines of contracts' % part['src'],
+        '%d lines of statements' % part['proofs'],
+        'it would be %d' % without_theorems(),
+        '%d lines in %d crates' % (sum(count for _, count in types), len({name.split('/')[0] for name, _ in types})),
+    ]
 
 
 def main():
-    """Prints the table, or the believed lines of the files that are named."""
+    """Prints the rows and the counts of docs/TRUST.md, or all that is believed of the files that are named, with the comments above it."""
     if len(sys.argv) == 1:
-        for rows, what in ((table(), 'lines in %d files'), (shape_table(), 'lines of structs and enums in %d files')):
-            for name, count in rows:
-                print('%4d  %s' % (count, name))
-            print('%4d  %s' % (sum(count for _, count in rows), what % len(rows)))
-        print('%4d  without the theorems' % without_theorems())
+        print('\n'.join(['| %s | %d |' % row for row in table()] + counts()))
     for asked in sys.argv[1:]:
         for name, definition, comment, lines in definitions() + shapes():
             if asked in name:
-                print('\n'.join('%s: %s' % (name, line) for line in comment + lines))
+                print('\n'.join([name] + ['    ' + line for line in comment + lines]))
     return 0
 
 
