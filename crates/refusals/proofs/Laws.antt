@@ -1,14 +1,14 @@
 -- The laws of refusals: no two share a number, what C is given tells the refusal and its place, and in which order they are tried.
 use mathlib.Core.Path.{_≡_, refl, sym, ap, _∙_}
 use mathlib.Core.List.{List, [], _∷_}
-use Prim.Native.Nat.{ℕ, _-_, _/_, _%_, _^_, _≤_, _<_}
+use Prim.Native.Nat.{ℕ, _-_, _^_, _≤_, _<_}
 use native.Mathlib.Omega.{arith}
 use lib.Dec.{lit<}
 use lib.ListN.{getD}
 use Rattle.refusals.specs.declared.Refusal.{Refusal}
 use Rattle.refusals.specs.declared.Why.{Why}
 use Rattle.refusals.specs.declared.Why.the-variants as Why
-use Rattle.refusals.specs.Refusals.{numberOf, codeOf, order, stepsBefore}
+use Rattle.refusals.specs.Refusals.{numberOf, Told, order, stepsBefore}
 
 -- The numbers are small: they leave room for the place below them and for the top bit above them.
 pub numbered : (why : Why) → (1 ≤ numberOf why) × (numberOf why ≤ 255)
@@ -61,13 +61,7 @@ named Why.NotRebuildable = refl
 pub same-number : (a b : Why) → numberOf a ≡ numberOf b → a ≡ b
 same-number a b e = sym (named a) ∙ ap (λ (n : ℕ). getD table (n - 1) Why.TooLong) e ∙ named b
 
--- What C is given has the top bit set, and the number and the place come back from it.
-pub record Told (r : Refusal) : Type 0 where
-  pub isRefusal : codeOf r / 2 ^ 63 ≡ 1
-  pub number : codeOf r % 2 ^ 63 / 2 ^ 32 ≡ numberOf (r .why)
-  pub place : codeOf r % 2 ^ 32 ≡ r .place .0
-  pub fits : codeOf r < 2 ^ 64
-
+-- Where the place has 32 bits, C learns the refusal and its place.
 pub code-tells : (r : Refusal) → r .place .0 < 2 ^ 32 → Told r
 code-tells r h = told (numbered (r .why))
   where

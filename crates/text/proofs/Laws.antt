@@ -12,7 +12,7 @@ use borrow.Author.Tests.{ltb-true, ltb-false, eq-eqb, ne-eqb, eqb-true, eqb-fals
 use Rattle.octets.proofs.Cases.{split}
 use Rattle.calendar.specs.Calendar.{digit}
 use Rattle.laws_rows.specs.Rows.{laid}
-use Rattle.text.specs.Text.{Puts, spelt, decimal}
+use Rattle.text.specs.Text.{Puts, spelt, decimal, readBehind, readBack}
 
 -- Where nothing is put, the run and the place stay.
 pub puts-none : (a : List ℕ) (at : ℕ) → Puts a at [] a at
@@ -115,15 +115,6 @@ spelt-short (suc most) n =
 
 pub decimal-short : (n : ℕ) → length (decimal n) ≤ 20
 decimal-short n = spelt-short 20 n
-
--- The number that decimal digits are read as, the first digit first, behind a number that was read before them.
-unfoldable pub readBehind : ℕ → List ℕ → ℕ
-readBehind number [] = number
-readBehind number (d ∷ rest) = readBehind (10 * number + (d - 48)) rest
-
--- Digits read from the first one on.
-abbrev pub readBack : List ℕ → ℕ
-readBack digits = readBehind 0 digits
 
 read-last : (number : ℕ) (front : List ℕ) (d : ℕ) → readBehind number (front ++ (d ∷ [])) ≡ 10 * readBehind number front + (d - 48)
 unfolding readBehind

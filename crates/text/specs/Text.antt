@@ -1,5 +1,5 @@
 -- Text as octets in a run that is lent whole: what is put, and where. What lies before and behind it stays as it is.
-use Prim.Native.Nat.{ℕ, zero, suc, _+_, _/_}
+use Prim.Native.Nat.{ℕ, zero, suc, _+_, _-_, _*_, _/_}
 use Prim.Native.Char.{code}
 use Prim.Native.String.{String, [] as noText, _∷_ as _andThen_}
 use mathlib.Core.Path.{_≡_}
@@ -27,3 +27,12 @@ spelt (suc most) n = cond (ltb n 10) (digit n ∷ []) (spelt most (n / 10) ++ (d
 -- A number of 64 bits has at most 20 digits.
 abbrev pub decimal : ℕ → List ℕ
 decimal n = spelt 20 n
+
+-- The number that decimal digits are read as, the first digit first, behind a number that was read before them.
+unfoldable pub readBehind : ℕ → List ℕ → ℕ
+readBehind number [] = number
+readBehind number (d ∷ rest) = readBehind (10 * number + (d - 48)) rest
+
+-- Digits read from the first one on.
+abbrev pub readBack : List ℕ → ℕ
+readBack digits = readBehind 0 digits

@@ -73,16 +73,14 @@ pub whole-double : (s : Bool) (m : ℕ) (e : ℤ) → T (fits binary64 (fin s m 
 whole-double s m e t = whole-from 1074 m e (held binary64 s m e t .on-grid)
 
 -- With R = 2^-51, E = 0, D = 1 and X = 7 the double is 0.7, and both roundings err downwards: the bound 2^53 does not hold.
-abbrev nought : Signed
-nought = record { negative = false; size = 0 }
-
-abbrev one : Signed
-one = record { negative = false; size = 1 }
-
-pub in-limits : InLimits 0x2600_0000 nought one 7
+pub in-limits : InLimits 0x2600_0000 (record { negative = false; size = 0 }) (record { negative = false; size = 1 }) 7
 unfolding ofBits
 in-limits = record { scaled = record { finiteR = tt; e127 = lit≤ tt; d22 = lit≤ tt }; packed = lit≤ tt }
 
-pub not-53 : Near 53 false 1 (writtenV (valueOf 0x2600_0000 nought one 7)) (exactS 0x2600_0000 nought 7) → ⊥
+pub not-53 :
+    let r : ℕ = 0x2600_0000 in
+    let e : Signed = record { negative = false; size = 0 } in
+    let d : Signed = record { negative = false; size = 1 } in
+    Near 53 false 1 (writtenV (valueOf r e d 7)) (exactS r e 7) → ⊥
 unfolding valueOf add mul div ofInt ofBits
 not-53 near = not-le-of-lt (lit< tt) near
