@@ -239,11 +239,22 @@ STATEMENTS = {
 }
 
 
+# The crates of theorems that state no demand: what the demands are built of, and the outcomes, which have a rule of their own.
+PARTS = {'theorems_bound', 'theorems_grammar', 'theorems_outcomes'}
+
+
+def demands_are_listed():
+    """The theorems that docs/DEMANDS.md cites from crates that state demands are those whose statements this file has, and none of these crates is left out."""
+    cited = {(name, theorem) for name, theorem in believed.cited('docs/DEMANDS.md') if name.startswith('theorems_') and name.split('/')[0] not in PARTS}
+    for name, theorem in sorted(cited ^ {(name, theorem) for theorem, (name, _) in STATEMENTS.items()}):
+        yield 'docs/DEMANDS.md: %s (%s) is %s' % (theorem, name, 'in no statement of tests/house.py' if (name, theorem) in cited else 'not cited')
+    for crate in sorted({crate for crate in listed() if crate.startswith('theorems_')} - PARTS - {name.split('/')[0] for name, _ in STATEMENTS.values()}):
+        yield 'crates/%s: none of its theorems is in the statements of tests/house.py' % crate
+
+
 def demands_are_stated():
     """The theorems of the demands stand in proofs/ word for word, speak of the definitions in specs/, and are among what is checked."""
     for theorem, (name, statement) in STATEMENTS.items():
-        if (name, theorem) not in believed.cited('docs/DEMANDS.md'):
-            yield 'docs/DEMANDS.md: %s is not cited' % theorem
         crate, module = name.split('/')[0], name.split('/')[-1][:-len('.antt')]
         if 'crates/' + name not in FILES or crate not in listed() or 'pub mod ' + module not in lines_of('crates/%s/proofs/Lib.antt' % crate):
             yield '%s: not among the files that are checked' % name
@@ -366,8 +377,8 @@ def own_words():
 
 RULES = [
     crates_are_listed, lowest_first, sources_in_crates, layout, must_fail_edits, opening_comments, printed_places, unused_names, short_functions,
-    contracts_fit, names_mean_one_thing, code_stands_on_code, nothing_asked_of_users, outcomes_are_determined, demands_are_stated,
-    promises_stand_in_specs, definitions_are_read, trust_is_counted, demands_name_what_is_there, evidence_is_counted, version_is_told,
+    contracts_fit, names_mean_one_thing, code_stands_on_code, nothing_asked_of_users, outcomes_are_determined, demands_are_listed,
+    demands_are_stated, promises_stand_in_specs, definitions_are_read, trust_is_counted, demands_name_what_is_there, evidence_is_counted, version_is_told,
     sample_is_the_sample, own_words,
 ]
 
