@@ -236,6 +236,8 @@ STATEMENTS = {
     'rebuild-meets': ('theorems_demands/proofs/Rebuild.antt', ['module _ (r : ℕ) (e d x : Signed) where', '  pub rebuild-meets : Rebuilds r e d x']),
     'no-impostor': ('theorems_demands/proofs/Impostors.antt', ['pub no-impostor : NoImpostor']),
     'examples': ('theorems_demands/proofs/Examples.antt', ['pub examples : Examples']),
+    'calls': ('theorems_calls/proofs/Calls.antt', ['pub calls : Calls']),
+    'rattle-calls': ('theorems_calls/proofs/Calls.antt', ['pub rattle-calls : RattleCalls']),
 }
 
 

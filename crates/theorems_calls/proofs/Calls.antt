@@ -26,7 +26,7 @@ use Rattle.question_decode.proofs.Laws.{Small as DecodedSmall, decode-small}
 use Rattle.skeptolyr.specs.Codes.{checkCode, decodeCode}
 use Rattle.listing_file.specs.Listing.{mostOctets, answerText, lineOf, linesOf, checkedText, listingOf}
 use Rattle.theorems_demands.specs.Questions.{Question, verdict, refusedBy, ofChecked, ofDescribed, ofDecoded, check, describe}
-use Rattle.theorems_demands.specs.Demand2.{Runs, Call, answerTo, leftBehind}
+use Rattle.theorems_demands.specs.Demand2.{BothRuns, Call, answerTo, leftBehind}
 use Rattle.theorems_demands.proofs.Demand1.{demand-1}
 use Rattle.theorems_demands.proofs.Demand2.{demand-2}
 use Rattle.theorems_demands.proofs.Demand3.{demand-3}
@@ -82,7 +82,7 @@ module _ (file : List ℕ) where
           }
 
   -- The same of a number and of two runs that are known to be these.
-  decodes-by : (c : Call) (code : ℕ) (left : Runs) →
+  decodes-by : (c : Call) (code : ℕ) (left : BothRuns) →
       code ≡ decodeCode (answerTo file c) → left .values ≡ leftBehind file c .values → left .presence ≡ leftBehind file c .presence → DecodeKeeps file c code left
   decodes-by c code left e v p =
       let same : leftBehind file c ≡ left = λ i. record { values = sym v i; presence = sym p i } in

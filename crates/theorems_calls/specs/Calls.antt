@@ -14,7 +14,7 @@ use Rattle.text.specs.Text.{ascii, decimal, Puts}
 use Rattle.listing_lines.specs.Lines.{fieldText}
 use Rattle.theorems_demands.specs.Questions.{Question, check, describe, decode}
 use Rattle.theorems_demands.specs.Demand1.{FieldAt, Applies, First}
-use Rattle.theorems_demands.specs.Demand2.{Runs, Call, Decodes, answerTo, leftBehind}
+use Rattle.theorems_demands.specs.Demand2.{BothRuns, Call, Decodes, answerTo, leftBehind}
 use Rattle.theorems_demands.specs.Demand3.{AllNear}
 use Rattle.theorems_calls.specs.Promises.{Promises}
 use Rattle.tiling.specs.Tiling as Tiling
@@ -54,7 +54,7 @@ abbrev pub decodeOf : Call → Question
 decodeOf c = decode (c .k) (c .start) (length (c .before .values)) (length (c .before .presence))
 
 -- What a call of skeptolyr_decode has answered, and the two runs that it has left.
-pub record DecodeKeeps (file : List ℕ) (c : Call) (code : ℕ) (left : Runs) : Type 0 where
+pub record DecodeKeeps (file : List ℕ) (c : Call) (code : ℕ) (left : BothRuns) : Type 0 where
   -- Demand 1: it is refused, and no element is altered, or no refusal applies.
   pub refused : 2 ^ 63 ≤ code → Refuses file (decodeOf c) code × (left ≡ c .before)
   pub answered : code < 2 ^ 63 → (number place : ℕ) → Applies file (decodeOf c) number place → ⊥
@@ -88,10 +88,10 @@ pub record Lists (input before after : List ℕ) (behind : ℕ) : Type 0 where
   pub put : Puts before 0 text after behind
 
 -- A call of decode by its parameters: k, start, and the two runs.
-abbrev pub runsOf : List Float → List ℕ → Runs
+abbrev pub runsOf : List Float → List ℕ → BothRuns
 runsOf values presence = record { values = values; presence = presence }
 
-abbrev pub callOf : ℕ → ℕ → Runs → Call
+abbrev pub callOf : ℕ → ℕ → BothRuns → Call
 callOf k start before = record { k = k; start = start; before = before }
 
 -- The promises, of the contracts that the checker proves of the functions. What is given are their parameters in order: of decode file, k, start, values and

@@ -9,7 +9,7 @@ use Rattle.theorems_bound.proofs.Meets.{rebuilt-meets}
 use Rattle.question.specs.declared.Description.{Description}
 use Rattle.question.proofs.Laws.{judged-described}
 use Rattle.question.proofs.Known.{scaled}
-use Rattle.theorems_demands.specs.Demand2.{Runs, Call, leftBehind, Decodes}
+use Rattle.theorems_demands.specs.Demand2.{BothRuns, Call, leftBehind, Decodes}
 use Rattle.theorems_demands.specs.Demand3.{AllNear, Demand3}
 use Rattle.theorems_demands.proofs.Demand1.{described-is}
 
@@ -18,7 +18,7 @@ pub one-integer : {m n : ℕ} → pos m ≡ pos n → m ≡ n
 one-integer e = cc
 
 -- At each point that is present, whatever has decoded the field.
-pub decodes-near : (file : List ℕ) (c : Call) (left : Runs) (d : Description) → Decodes file c left d → AllNear file c left d
+pub decodes-near : (file : List ℕ) (c : Call) (left : BothRuns) (d : Description) → Decodes file c left d → AllNear file c left d
 decodes-near file c left d decodes i x inside mark standard =
     let p = decodes .points i inside .present mark in
     let limits = scaled file d (c .k, described-is file (decodes .describes .1) ∙ judged-described file (decodes .describes .0) (decodes .describes .2)) in

@@ -44,24 +44,24 @@ pub record Point (file : List ℕ) (d : Description) (i : ℕ) (written : Float)
   pub present : mark ≡ 1 → Present file d i written
 
 -- The two runs of decode, as they are at one time, and what stands at a place of each.
-pub record Runs : Type 0 where
+pub record BothRuns : Type 0 where
   pub values : List Float
   pub presence : List ℕ
 
-abbrev pub valueIn : Runs → ℕ → Float
+abbrev pub valueIn : BothRuns → ℕ → Float
 valueIn runs i = getD (runs .values) i nan
 
-abbrev pub markIn : Runs → ℕ → ℕ
+abbrev pub markIn : BothRuns → ℕ → ℕ
 markIn runs i = getD (runs .presence) i 0
 
 -- A call of decode, with what both runs hold before it.
 pub record Call : Type 0 where
   pub k : ℕ
   pub start : ℕ
-  pub before : Runs
+  pub before : BothRuns
 
 -- It has decoded the field that d describes: the runs that it leaves hold the field's points from the start index on, and all else is as it was.
-module _ (file : List ℕ) (c : Call) (left : Runs) where
+module _ (file : List ℕ) (c : Call) (left : BothRuns) where
   abbrev pub KeptAt : ℕ → Type 0
   KeptAt i = (valueIn left i ≡ valueIn (c .before) i) × (markIn left i ≡ markIn (c .before) i)
 
@@ -76,7 +76,7 @@ module _ (file : List ℕ) (c : Call) (left : Runs) where
 abbrev pub answerTo : List ℕ → Call → declared.Decoded
 answerTo file c = answer file (c .k) (c .start) (length (c .before .values)) (length (c .before .presence))
 
-abbrev pub leftBehind : List ℕ → Call → Runs
+abbrev pub leftBehind : List ℕ → Call → BothRuns
 leftBehind file c =
     record {
       values = valuesLeft file (c .k) (c .start) (c .before .values) (c .before .presence);

@@ -11,7 +11,7 @@ use Rattle.question.specs.declared.Description.{Description}
 use Rattle.question.specs.Judge.{integerOf}
 use Rattle.question_decode.specs.declared.Decoded.the-variants as Decoded
 use Rattle.question_decode.specs.Decoding.{rankOf}
-use Rattle.theorems_demands.specs.Demand2.{Runs, valueIn, markIn, Call, Decodes, answerTo, leftBehind}
+use Rattle.theorems_demands.specs.Demand2.{BothRuns, valueIn, markIn, Call, Decodes, answerTo, leftBehind}
 
 -- The double that is written for a point that is present, with R, E and D as section 5 holds them and X by demand 2: they are in their limits, and the double
 -- is finite, near, and zero where the fraction is.
@@ -20,7 +20,7 @@ pub record RebuiltNear (d : Description) (x : ℕ) (written : Float) : Type 0 wh
   pub meets : Meets (d .representation .d .negative) (d .representation .d .size) (exactS (d .representation .r) (d .representation .e) x) written
 
 -- So it is at each point that a call of decode has marked as present.
-abbrev pub AllNear : List ℕ → Call → Runs → Description → Type 0
+abbrev pub AllNear : List ℕ → Call → BothRuns → Description → Type 0
 AllNear file c left d =
     (i x : ℕ) →
     i < pointsOf (d .grid) →
