@@ -1,14 +1,13 @@
--- The laws of refusals: no two share a number, what C is given tells the refusal and its place, and in which order they are tried.
+-- The laws of refusals: no two share a number, the numbers are small, and in which order refusals are tried.
 use mathlib.Core.Path.{_≡_, refl, sym, ap, _∙_}
 use mathlib.Core.List.{List, [], _∷_}
-use Prim.Native.Nat.{ℕ, _-_, _^_, _≤_, _<_}
+use Prim.Native.Nat.{ℕ, _-_, _≤_, _<_}
 use native.Mathlib.Omega.{arith}
 use lib.Dec.{lit<}
 use lib.ListN.{getD}
-use Rattle.refusals.specs.declared.Refusal.{Refusal}
 use Rattle.refusals.specs.declared.Why.{Why}
 use Rattle.refusals.specs.declared.Why.the-variants as Why
-use Rattle.refusals.specs.Refusals.{numberOf, Told, order, stepsBefore}
+use Rattle.refusals.specs.Refusals.{numberOf, order, stepsBefore}
 
 -- The numbers are small: they leave room for the place below them and for the top bit above them.
 pub numbered : (why : Why) → (1 ≤ numberOf why) × (numberOf why ≤ 255)
@@ -60,13 +59,6 @@ named Why.NotRebuildable = refl
 -- Two refusals with one number are the same refusal.
 pub same-number : (a b : Why) → numberOf a ≡ numberOf b → a ≡ b
 same-number a b e = sym (named a) ∙ ap (λ (n : ℕ). getD table (n - 1) Why.TooLong) e ∙ named b
-
--- Where the place has 32 bits, C learns the refusal and its place.
-pub code-tells : (r : Refusal) → r .place .0 < 2 ^ 32 → Told r
-code-tells r h = told (numbered (r .why))
-  where
-    told : (1 ≤ numberOf (r .why)) × (numberOf (r .why) ≤ 255) → Told r
-    told n = record { isRefusal = omega arith; number = omega arith; place = omega arith; fits = omega arith }
 
 -- The order of refusals, step by step: whoever compares two of them adds up these steps.
 pub record InOrder : Type 0 where

@@ -1,6 +1,5 @@
 -- Document 01, "Refusals by number": the number that each refusal has, what C is given for it, and the order in which refusals are tried.
-use Prim.Native.Nat.{ℕ, suc, _+_, _*_, _/_, _%_, _^_, _<_}
-use mathlib.Core.Path.{_≡_}
+use Prim.Native.Nat.{ℕ, suc, _+_, _*_, _^_}
 use mathlib.Core.List.{List, [], _∷_}
 use mathlib.Core.Bool.{cond, _&&_}
 use lib.Dec.{eqb, leb}
@@ -38,13 +37,6 @@ numberOf Why.NotRebuildable = 19
 -- What C is given for a refusal: 2^63 + number x 2^32 + place.
 abbrev pub codeOf : Refusal → ℕ
 codeOf r = 2 ^ 63 + numberOf (r .why) * 2 ^ 32 + r .place .0
-
--- What C learns from it: it has the top bit set, and the number and the place come back from it.
-pub record Told (r : Refusal) : Type 0 where
-  pub isRefusal : codeOf r / 2 ^ 63 ≡ 1
-  pub number : codeOf r % 2 ^ 63 / 2 ^ 32 ≡ numberOf (r .why)
-  pub place : codeOf r % 2 ^ 32 ≡ r .place .0
-  pub fits : codeOf r < 2 ^ 64
 
 -- The order in which refusals are tried, first to last, by their numbers: it is an order of its own, and not that of the numbers. A program's input is
 -- judged before all else; then the file's length and its tiling; then the field, its sections in force, and what is asked of the field.

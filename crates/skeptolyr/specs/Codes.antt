@@ -1,7 +1,6 @@
 -- Document 01, "What the reader takes": the one number that answers C. The counts of check share it, 32 bits each, messages on top; the top bit
 -- says that it is a refusal.
-use Prim.Native.Nat.{ℕ, _+_, _*_, _/_, _%_, _^_}
-use mathlib.Core.Path.{_≡_}
+use Prim.Native.Nat.{ℕ, _+_, _*_, _^_}
 use Rattle.refusals.specs.Refusals.{codeOf}
 use Rattle.tiling.specs.declared.Checked.{Checked}
 use Rattle.tiling.specs.declared.Checked.the-variants as Checked
@@ -11,12 +10,6 @@ use Rattle.question_decode.specs.declared.Decoded.the-variants as Decoded
 abbrev pub checkCode : Checked → ℕ
 checkCode (Checked.Counts messages fields) = messages * 2 ^ 32 + fields
 checkCode (Checked.Refused r) = codeOf r
-
--- The top bit of an accepted file's number is clear, and both counts come back by division and remainder.
-pub record Counted (code m n : ℕ) : Type 0 where
-  pub isAccepted : code / 2 ^ 63 ≡ 0
-  pub messages : code / 2 ^ 32 ≡ m
-  pub fields : code % 2 ^ 32 ≡ n
 
 -- Decode answers with the field's point count.
 abbrev pub decodeCode : Decoded → ℕ

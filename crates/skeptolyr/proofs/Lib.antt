@@ -1,2 +1,0 @@
--- What C learns from the numbers that it is given.
-pub mod Laws
