@@ -9,7 +9,7 @@ import shutil
 import sys
 
 from tests import decoding, fields
-from tests.help import grib, reading
+from tests.help import SEED, grib, reading
 
 LONGEST_RUN = 2047
 LONGEST_FILE = 4000
@@ -36,7 +36,7 @@ def files():
     found += [('earlier field', file, k) for _, file, k, _ in fields.later_fields() if k < 200]
     groups = [numbers for _, numbers, _ in decoding.integers_out_of_range() if len(numbers[1]) < LONGEST_RUN]
     found += [('integers', decoding.small_file(decoding.one_group(*numbers)), 0) for numbers in groups]
-    rng = random.Random(fields.SEED)
+    rng = random.Random(SEED)
     found += [('bitmap', file, number % 3) for number, file in enumerate(decoding.bitmaps(rng)[:BITMAPS])]
     return found + [('long', file, k) for file, k in long_fields(rng)]
 

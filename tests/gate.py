@@ -70,9 +70,17 @@ class Tree:
 
     def ended(self):
         """What it prints on both ways out, and its status."""
-        with self.start() as run:
-            out, said = run.communicate(timeout=60)
-        return out, said, run.returncode
+        return self.finished(self.start())
+
+    @staticmethod
+    def finished(run):
+        """The same of a tool that runs. One that does not end in time is ended, with what it has started in its group."""
+        try:
+            out, said = run.communicate(timeout=30)
+        except subprocess.TimeoutExpired:
+            os.killpg(run.pid, signal.SIGKILL)
+            out, said = '', 'it did not end in 30 seconds'
+        return out, said, run.wait()
 
     def faults(self, lines, status):
         """What is wrong if the gate does not end in these lines and with this status."""
@@ -167,29 +175,33 @@ child.wait()
 
 
 def runs_on(process):
-    """Does a process run that should have ended? It is ended now, so that a failure of this test leaves nothing behind."""
-    try:
-        with open('/proc/%d/stat' % process, encoding='ascii') as stat:
-            is_ended = stat.read().rsplit(')', 1)[1].split()[0] == 'Z'
-        os.kill(process, signal.SIGKILL)
-        return not is_ended
-    except (FileNotFoundError, ProcessLookupError):
-        return False
+    """Does a process run on that has been told to end? If so it is ended, so that a failure of this test leaves nothing behind."""
+    deadline = time.monotonic() + 5
+    while time.monotonic() < deadline:
+        try:
+            with open('/proc/%d/stat' % process, encoding='ascii') as stat:
+                if stat.read().rsplit(')', 1)[1].split()[0] == 'Z':
+                    return False
+        except (FileNotFoundError, ProcessLookupError):
+            return False
+        time.sleep(0.01)
+    os.kill(process, signal.SIGKILL)
+    return True
 
 
 def interrupted(folder):
     """Ctrl-C, or the end of the terminal, ends it and all that it has started, and it says so in one line and decides nothing."""
     for number in (signal.SIGINT, signal.SIGHUP, signal.SIGTERM):
-        run = Tree(os.path.join(folder, str(int(number))), {'endless': (ENDLESS, 1)}).start()
-        children = []
+        tree, children = Tree(os.path.join(folder, str(int(number))), {'endless': (ENDLESS, 1)}), []
+        run = tree.start()
         for line in run.stdout:
             children += [int(word) for word in re.findall(r'^child (\d+)$', line)]
             if children:
                 run.send_signal(number)
                 break
-        out, said = run.communicate(timeout=30)
-        if run.returncode != 130 or len(said.split('\n')) != 3 or 'interrupted' not in said or 'passed' in out:
-            yield 'signal %d: it ends with %d and says %r' % (number, run.returncode, out + said)
+        out, said, status = tree.finished(run)
+        if status != 130 or len(said.split('\n')) != 3 or 'interrupted' not in said or 'passed' in out:
+            yield 'signal %d: it ends with %d and says %r' % (number, status, out + said)
         if not children or any([runs_on(child) for child in children]):
             yield 'signal %d: what it started runs on: %s' % (number, children)
 
@@ -216,13 +228,9 @@ def sample_is_interrupted(folder):
         time.sleep(0.01)
     # A terminal sends it to every process of the group.
     os.killpg(run.pid, signal.SIGINT)
-    try:
-        out, said = run.communicate(timeout=10)
-    except subprocess.TimeoutExpired:
-        run.kill()
-        out, said = 'nothing for', 'ten seconds'
-    if (run.returncode, out, said) != (130, '', 'proving and building skeptolyr\nsample: interrupted\n'):
-        yield 'it ends with %d and says %r' % (run.returncode, out + said)
+    out, said, status = tree.finished(run)
+    if (status, out, said) != (130, '', 'proving and building skeptolyr\nsample: interrupted\n'):
+        yield 'it ends with %d and says %r' % (status, out + said)
     if not os.path.exists(told):
         yield 'it has not started to prove'
         return

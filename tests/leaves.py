@@ -13,12 +13,11 @@ import random
 import sys
 from fractions import Fraction
 
-from tests.help import report
+from tests.help import SEED, report
 from tools import TOP, built
 
 RECORD = 32
 RECORDS_A_RUN = 65536 // RECORD
-SEED = int(os.environ.get('SEED', '20170515'))
 CASES = {'rebuild': 120_000, 'bits': 40_000, 'later': 40_000, 'order': 20_000}
 
 

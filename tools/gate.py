@@ -130,7 +130,7 @@ class Runner:
         """Starts each waiting task for which processors are free, in their order."""
         for task in list(self.waiting):
             busy = sum(run.task.processors for run in self.runs.values() if not run.has_ended())
-            if busy + task.processors <= PROCESSORS:
+            if busy == 0 or busy + task.processors <= PROCESSORS:
                 self.waiting.remove(task)
                 self.runs[task] = Run(task)
 

@@ -16,14 +16,14 @@ import time
 from tests import fields
 from tests.evidence import rules
 from tests.evidence.faults import FAULTS
-from tests.help import report
+from tests.help import SEED as SEED_OF_TESTS, report
 from tests.help.faulty import FAULTS as FAULTY, RENAMED
 from tools import TOP, archive, debian
 
 BUILT = os.path.join(TOP, 'target', 'evidence')
 RULES = os.path.join(BUILT, 'rules')
 RECORD = os.path.join(BUILT, 'answers')
-SEED = os.environ.get('SEED', '20170515')
+SEED = str(SEED_OF_TESTS)
 CASES = '1000000'
 LISTINGS = '600'
 REBUILDS = '200000'
