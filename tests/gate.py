@@ -15,26 +15,22 @@ from tests.help import report
 from tests.suites import SUITES
 from tools import TOP
 
-# A suite is a module of Python: what it is, and how many tests the list says that it has.
+# A suite that is made up: its source, and how many tests the list says that it has.
 WELL = ('print("seen"); print("2 passed, 0 failed")', 2)
+LOST, NO_COUNT = 'it has %d tests, and tests/suites.py says 2: find the test that is lost', "and not in a line 'N passed, M failed'"
+# Suites that the list says have two tests, and that fail once each: the source, how many pass, and what the gate says.
 FAILING = {
-    'none': ('print("0 passed, 0 failed")', 2),
-    'fewer': ('print("1 passed, 0 failed")', 2),
-    'more': ('print("3 passed, 0 failed")', 2),
-    'silent': ('pass', 2),
-    'dying': ('import os, signal; print("2 passed, 0 failed", flush=True); os.kill(os.getpid(), signal.SIGKILL)', 2),
-    'quitting': ('import sys; print("2 passed, 0 failed"); sys.exit(1)', 2),
-    'tailing': ('print("2 passed, 0 failed"); print("and more")', 2),
-    'failing': ('import sys; print("1 passed, 1 failed"); sys.exit(1)', 2),
-    'hiding': ('print("skipped: a, because b"); print("2 passed, 0 failed")', 2),
+    'none': ('print("0 passed, 0 failed")', 0, LOST % 0),
+    'fewer': ('print("1 passed, 0 failed")', 1, LOST % 1),
+    'more': ('print("3 passed, 0 failed")', 3, 'it has 3 tests, and tests/suites.py says 2: write the new number there'),
+    'silent': ('pass', 0, NO_COUNT),
+    'dying': ('import os, signal; print("2 passed, 0 failed", flush=True); os.kill(os.getpid(), signal.SIGKILL)', 2, 'status -9, and tells of no failure'),
+    'quitting': ('import sys; print("2 passed, 0 failed"); sys.exit(1)', 2, 'status 1, and tells of no failure'),
+    'raising': ('print("half"); raise ValueError', 0, NO_COUNT),
+    'tailing': ('print("2 passed, 0 failed"); print("and more")', 0, NO_COUNT),
+    'failing': ('import sys; print("1 passed, 1 failed"); sys.exit(1)', 1, '1 passed, 1 failed'),
+    'hiding': ('print("skipped: a, because b"); print("2 passed, 0 failed")', 2, 'it has 3 tests'),
 }
-# How many passed and failed each of these adds, by its name.
-COUNTS = {'none': (0, 1), 'fewer': (1, 1), 'more': (3, 1), 'silent': (0, 1), 'dying': (2, 1), 'quitting': (2, 1), 'tailing': (0, 1), 'failing': (1, 1), 'hiding': (2, 1)}
-# Words of what the gate says of it.
-SAID = {
-    'none': 'it has 0 tests, and tests/suites.py says 2: find the test that is lost', 'fewer': 'it has 1 tests, and tests/suites.py says 2: find the test that is lost',
-    'more': 'it has 3 tests, and tests/suites.py says 2: write the new number there', 'silent': "not in a line 'N passed, M failed'", 'dying': 'status -9',
-    'quitting': 'status 1, and tells of no failure', 'tailing': "not in a line 'N passed, M failed'", 'hiding': 'it has 3 tests'}
 
 
 class Tree:
@@ -107,28 +103,27 @@ def skipped(folder):
 
 def red(folder):
     """A suite without tests, with fewer or more than the list says, that dies, that ends otherwise, that fails or that skips too much: each fails."""
-    suites = {name: suite for name, suite in FAILING.items()}
-    out, _, status = Tree(folder, suites).ended()
-    passed, failed = (sum(column) for column in zip((2, 0), *COUNTS.values()))
-    last = out.split('\n')[-2]
-    if last != '%d passed, %d failed' % (passed, failed) or status != 1:
-        yield 'it ends with %d and in %r' % (status, last)
+    out, _, status = Tree(folder, {name: (source, 2) for name, (source, _, _) in FAILING.items()}).ended()
+    last = '%d passed, %d failed' % (2 + sum(passed for _, passed, _ in FAILING.values()), len(FAILING))
+    if out.split('\n')[-2] != last or status != 1:
+        yield 'it ends with %d and in %r, and not in %r' % (status, out.split('\n')[-2], last)
     shown = dict(re.findall(r'^== suite (\w+)\n(.*?)(?=\n\n)', out, re.M | re.S))
-    yield from ('%s: %r' % (name, shown.get(name)) for name in suites if name not in shown or SAID.get(name, '') not in shown[name])
-    if list(shown) != list(suites):
+    yield from ('%s: %r' % (name, shown.get(name)) for name, (_, _, said) in FAILING.items() if said not in shown.get(name, ''))
+    if list(shown) != list(FAILING):
         yield 'they are shown as %s' % list(shown)
 
 
 def rt_is_counted(folder):
-    """rt ci with fewer tests than there are crates and edits in the tree fails, and so does one that says nothing."""
-    for number, (rt, last) in enumerate([('echo "1 passed, 0 failed"', '3 passed, 1 failed'), ('exit 0', '2 passed, 1 failed'), ('echo "2 passed, 0 failed"; exit 2', '4 passed, 1 failed')]):
-        yield from Tree(os.path.join(folder, str(number)), {'one': WELL}, rt).faults(['nothing was skipped', last], 1)
+    """rt ci with fewer tests than there are crates and edits in the tree fails, and so does one that says nothing, or ends badly."""
+    for name, rt, last in (('fewer', 'echo "1 passed, 0 failed"', 3), ('silent', 'exit 0', 2), ('quitting', 'echo "2 passed, 0 failed"; exit 2', 4)):
+        yield from Tree(os.path.join(folder, name), {'one': WELL}, rt).faults(['nothing was skipped', '%d passed, 1 failed' % last], 1)
 
 
 def what_is_shared_is_built(folder):
     """What cannot be set up or built fails, though every suite passes."""
-    yield from Tree(os.path.join(folder, 'built'), {'one': WELL}, shared=[('tests.none_such',)]).faults(['nothing was skipped', '4 passed, 1 failed'], 1)
-    yield from Tree(os.path.join(folder, 'setup'), {'one': WELL}, setup='exit 2').faults(['skipped: every test, because tools/setup failed', '0 passed, 1 failed'], 1)
+    unbuilt, unset = (os.path.join(folder, name) for name in ('unbuilt', 'unset'))
+    yield from Tree(unbuilt, {'one': WELL}, shared=[('tests.none_such',)]).faults(['nothing was skipped', '4 passed, 1 failed'], 1)
+    yield from Tree(unset, {'one': WELL}, setup='exit 2').faults(['skipped: every test, because tools/setup failed', '0 passed, 1 failed'], 1)
 
 
 # A suite that waits for the other to start. Alone, it waits in vain and fails.
