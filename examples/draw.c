@@ -51,17 +51,14 @@ static void give_up(const char *where, const char *what, int reason, const char 
     exit(FAILED);
 }
 
-/* The second line of a refusal: what to do about it, or where to look. */
+/* The second line of a refusal, where this program knows more than the library's words say: its own options, or how to look at the place. */
 static void advise(uint32_t number, uint32_t place, uint32_t fields, size_t room)
 {
     switch (number) {
     case SKEPTOLYR_TOO_LONG:
-        fprintf(stderr, "draw: Cut it between two messages, and draw from the part that has the field.\n");
-        break;
     case SKEPTOLYR_EMPTY:
     case SKEPTOLYR_CUT:
     case SKEPTOLYR_NO_END:
-        fprintf(stderr, "draw: Fetch the file again: not all of it has arrived.\n");
         break;
     case SKEPTOLYR_NO_SUCH_FIELD:
         fprintf(stderr, "draw: It has %" PRIu32 " field%s: choose one with -f, from 0 to %" PRIu32 ".\n", fields, fields == 1 ? "" : "s", fields - 1);

@@ -1,28 +1,70 @@
-/* Skeptolyr: a reader of weather files in FM 92 GRIB edition 2 whose every function is proved. This header is its manual.
+/* Skeptolyr reads weather files in the format GRIB2 (FM 92 GRIB edition 2), as the Japan Meteorological Agency writes them. This is its manual.
  *
- * A file is lent as octets in memory. There are two questions: skeptolyr_check asks whether a file is whole, and how many fields it has;
- * skeptolyr_decode asks for the values of one field. Each answers with one number of 64 bits, which is the full answer or a refusal: a number
- * from 1 to 16, which says what is wrong, and a place, which says where. The functions at the end take an answer apart, and put a refusal into
- * words:
+ * A file is an array of octets (bytes of 8 bits) in memory. It holds one message or several, a message holds one field or several, and a field is
+ * one quantity, such as a temperature, at the points of a grid. There are two questions:
+ *   - skeptolyr_check asks whether a file is whole, and how many messages and fields it has.
+ *   - skeptolyr_decode asks for the values of one field.
+ *
+ * Each of them returns one number of 64 bits, which is the full answer or a refusal. A refusal has a number from 1 to 16, which says what is wrong,
+ * and a place, which says where in the file. There is nothing between the two: a file or a field that breaks a rule is never read as if it were
+ * good, and no part of a field is given. The inline functions of the header take an answer apart, and put a refusal into words:
  *
  *     uint64_t answer = skeptolyr_check(file, file_len);
  *     if (skeptolyr_is_refusal(answer))
- *         fprintf(stderr, "refused %u at %u. %s\n", (unsigned)skeptolyr_refusal_number(answer), (unsigned)skeptolyr_refusal_place(answer),
+ *         fprintf(stderr, "refused %u at %u. %s\n",
+ *                 (unsigned)skeptolyr_refusal_number(answer),
+ *                 (unsigned)skeptolyr_refusal_place(answer),
  *                 skeptolyr_refusal_text(skeptolyr_refusal_number(answer)));
  *
- * What no function here ever does: read or write outside what it was lent, write into a run when it refuses, change the file, allocate memory,
- * keep anything from one call to the next, print, or fail to return. Any number of threads may ask about one file at once, each with runs of its
- * own.
+ * ---- What is read
  *
- * What the caller owes, since no proof reaches into C:
- *   - `file` points to `file_len` octets that can be read and that nothing changes during the call. A file that is mapped must not shrink meanwhile.
- *   - `values` and `presence` point to as many elements as their lengths say, which can be written and which nothing else reads or writes during
- *     the call; `values` is aligned as doubles are.
- *   - The file and the two runs do not overlap.
- * A null pointer will do where its length is 0: nothing is read or written through it.
+ * Files of centre 34, the Japan Meteorological Agency: grids of template 3.0, products of templates 4.0 and 4.8, values packed by templates 5.0 and
+ * 5.3, and the bitmap indicators 0, 254 and 255. A file has at most SKEPTOLYR_MOST_OCTETS octets, and a field at most SKEPTOLYR_MOST_POINTS points.
+ * Not read yet, and refused: other centres, section 2, other templates, and missing values that are marked inside the packing. In the source,
+ * docs/RULES.md has every rule.
  *
- * Link with libskeptolyr.a, which needs no other library: `pkg-config --cflags --libs skeptolyr` tells how. In the source, examples/numbers.c is
- * the shortest program that prints a field, and examples/draw.c makes a picture of one.
+ * ---- What you must guarantee
+ *
+ * No proof reaches into your program, so it is you who must guarantee this:
+ *   - `file` points to `file_len` octets that can be read, and nothing changes them during the call. A file that is mapped into memory must not
+ *     become shorter during the call.
+ *   - `values` and `presence` point to arrays with as many elements as their lengths say. They can be written, and nothing else reads or writes
+ *     them during the call. The array `values` is aligned as doubles are.
+ *   - The file and the two arrays do not overlap.
+ *
+ * A null pointer is allowed where its length is 0: nothing is read or written through it.
+ *
+ * ---- What no function does
+ *
+ * A function touches only the memory that you pass, and its own stack. It does not change the file, write into an array when it refuses, allocate
+ * memory, keep anything from one call to the next, or print, and it always returns. Any number of threads may ask about one file at the same time,
+ * each with arrays of its own.
+ *
+ * ---- What is proved
+ *
+ * Skeptolyr is written in Rattle, a language in which every function is proved to meet its contract, to touch only the memory that it is given, and
+ * to end. Of the two questions it is proved, for every file and every call, that
+ *   - a question is answered in full, or refused by the first refusal that applies, and a refused call changes nothing;
+ *   - a file is accepted exactly when messages fill it and sections fill each message as the standard says, and the counts, the missing points and
+ *     the packed integers are the standard's;
+ *   - each value is finite and within one part in 2^51 of the exact fraction, and is 0 where that is 0.
+ *
+ * The inline functions of the header are C: they are tested, and not proved. In the source, docs/TRUST.md says what else is believed.
+ *
+ * ---- What the proofs leave out
+ *
+ * The proofs speak of the values in your arrays. C and the processor know more of memory than that, so these three are tested or measured, and not
+ * proved:
+ *   - The sign and the payload of a NaN. To the proofs all NaNs are one value. Where one stands in `values` outside the elements that are written,
+ *     each of its 64 bits stays as it was.
+ *   - Memory that was never written. To the proofs every element has a value before the call. Fresh memory from malloc is fine all the same: no
+ *     element of `values` or `presence` is read, and those of the field are written.
+ *   - The stack. The functions took at most 2,048 octets of it, as much for the largest file as for the smallest.
+ *
+ * ---- How to link
+ *
+ * Link with libskeptolyr.a, which needs no other library: `pkg-config --cflags --libs skeptolyr` prints the options. It is code for x86-64. In the
+ * source, examples/numbers.c is the shortest program that prints a field, and examples/draw.c makes a picture of one.
  */
 #ifndef SKEPTOLYR_H
 #define SKEPTOLYR_H
@@ -37,46 +79,52 @@ extern "C" {
 /* The version of this header, and of the archive that was installed with it. CHANGELOG.md says what each of its numbers stands for. */
 #define SKEPTOLYR_VERSION "1.0.1"
 
-/* The longest file that is taken, and the most points that a field can have. */
+/* The longest file that is read, in octets, and the most points that a field can have. */
 #define SKEPTOLYR_MOST_OCTETS 268435456
 #define SKEPTOLYR_MOST_POINTS 16777216
 
 /* ---- The two questions */
 
-/* Checks a file of one or more messages: do the messages tile the file, and do the sections tile each message?
+/* Checks a file of one or more messages: do messages fill the file, and do sections fill each message, with no gap and in the order of the standard?
  *
- * Takes    the file. It reads little more than the head of each message and of each section, so that a large file takes no longer than a small one
- *          with as many of them.
- * Answers  messages x 2^32 + fields, which skeptolyr_messages and skeptolyr_fields take apart; or a refusal from 1 to 7.
- * Never    accepts a file in which an octet belongs to no message, a message that does not end in 7777 where its length says, or sections that do
- *          not fill their message in the order of the standard.
+ * A message that was cut, or that runs into the next one, is found in this way. It does not look at what the sections say: a field of a file that is
+ * accepted can still be refused by skeptolyr_decode. Two kinds of damage can be seen by no reader. A file that was cut between two messages has whole
+ * messages only. And a number may have become another number that is allowed: GRIB has no checksum.
  *
- * It does not look at what the sections say: a field of a file that is accepted can still be refused by skeptolyr_decode. Two kinds of damage no
- * reader can see: a file that was cut between two messages is whole in itself, and octets that were changed and still keep every rule are as good as
- * others, since the format has no sum to tell.
+ * Takes    the file. It reads little more than the head of each message and of each section, so a large file takes no longer than a small one with as
+ *          many of them.
+ * Returns  messages x 2^32 + fields, from which skeptolyr_messages and skeptolyr_fields take the two counts; or a refusal from 1 to 7.
+ * Never    accepts a file in which an octet belongs to no message, in which a message does not end in 7777 where its length says, or in which the
+ *          sections of a message do not follow one another as the standard allows: section 1, then one grid or more; a grid is section 3 and then one
+ *          field or more; a field is sections 4, 5, 6 and 7.
  */
 uint64_t skeptolyr_check(const uint8_t *file, size_t file_len);
 
-/* Decodes field k, counted from 0 over the whole file, into two runs, from element `start` of each on. No check is needed before: a file that
- * skeptolyr_check refuses is refused here in the same way.
+/* Decodes field `k` into two arrays, from element `start` of each on. Fields are counted from 0 over all messages of the file.
  *
- * Takes    the file; k; and the two runs, each with its own length. SKEPTOLYR_MOST_POINTS elements have room for any field; a run that is too
- *          short for the field is no danger, and gives refusal 15.
- * Answers  the field's point count, which skeptolyr_points gives as 32 bits; or a refusal from 1 to 16.
- *          values[start + n] is the value of point n, and presence[start + n] is 1. Where point n is missing, both are 0.
- *          Point 0 is the one in the north-west; the points of a row follow one another eastward, and the rows southward. No answer tells how
- *          many columns and rows there are: `grid_in_force` in examples/draw.c finds these two numbers in the file.
- * Never    alters an element outside the field's stretch, or any element at all when it refuses; writes an infinity, a NaN or -0.
+ * For each point n of the field, `values[start + n]` becomes its value, and `presence[start + n]` becomes 1. Where the point is missing, both become 0.
+ * Point 0 is the one in the north-west. The points of a row follow one another to the east, and the rows to the south. No answer tells how many columns
+ * and rows there are: in the source, the function `grid_in_force` of examples/draw.c finds these two numbers in the file.
  *
  * Each value is within one part in 2^51 of the exact fraction (R + X 2^E) / 10^D of the file's numbers, and is 0 where that is 0.
+ *
+ * Takes    the file, `k`, `start`, and the two arrays, each with its own length. No check is needed before: a file that skeptolyr_check refuses is
+ *          refused here in the same way. Arrays of SKEPTOLYR_MOST_POINTS elements have room for any field. An array that is too short for the field
+ *          is no danger: it gives refusal 15.
+ * Returns  the number of points of the field, missing ones too, which skeptolyr_points gives as 32 bits; or a refusal from 1 to 16.
+ * Never    changes an element before `start` or after the field's last point, or any element at all when it refuses; never writes an infinity, a NaN
+ *          or -0.
  */
-uint64_t skeptolyr_decode(const uint8_t *file, size_t file_len, size_t k, size_t start, double *values, size_t values_len, uint8_t *presence, size_t presence_len);
+uint64_t skeptolyr_decode(const uint8_t *file, size_t file_len, size_t k, size_t start,
+                          double *values, size_t values_len, uint8_t *presence, size_t presence_len);
 
 /* ---- Refusals */
 
-/* Why a question is refused; skeptolyr_refusal_text has a sentence on each. Places are counted in octets from 0, the start of the file, and a
- * section's or a message's place is where it starts. Of several reasons one is given, the first in this order: 1 and 2, which are about the file's
- * length; 3 to 7, of which the file's own order decides; 8; 9 to 14, the field's sections; then 17, or 15 and behind it 16.
+/* A refusal says why a question is not answered, and skeptolyr_refusal_text puts it into words. Places are counted in octets from 0, the start of the
+ * file. The place of a section or of a message is where it starts.
+ *
+ * Where several reasons apply, the first in this order is given: 1 and 2, which are about the file's length; 3 to 7, of which the one that is met first
+ * in the file; 8; 9 to 14, the sections of the field; then 17, or 15 and after it 16.
  */
 enum skeptolyr_refusal {
     /* The name                        number    the place */
@@ -102,36 +150,51 @@ enum skeptolyr_refusal {
     SKEPTOLYR_NOT_REBUILDABLE =        19     /* 0 */
 };
 
-/* A sentence on the refusal of this number. "Here" is the refusal's place. */
+/* The refusal of this number in words: whether the file is damaged or only of a kind that is not read, what is wrong, and what to do next. There,
+ * "here" is the refusal's place. A number that no refusal has gets a sentence that says so. The string lasts as long as the program; do not change or
+ * free it.
+ */
 static inline const char *skeptolyr_refusal_text(uint32_t number)
 {
     switch (number) {
-    case SKEPTOLYR_TOO_LONG: return "The file is longer than 268,435,456 octets, the most that is read.";
-    case SKEPTOLYR_EMPTY: return "The file is empty.";
-    case SKEPTOLYR_CUT: return "The file ends inside the message that starts here: it was cut short.";
-    case SKEPTOLYR_NOT_GRIB2: return "A message should start here, and these octets do not start one of GRIB edition 2.";
-    case SKEPTOLYR_BAD_LENGTH: return "The length that is written here, of a message or of a section, cannot be right.";
-    case SKEPTOLYR_OUT_OF_PLACE: return "The section that starts here may not follow what is before it, or the message ends here with a field unfinished.";
-    case SKEPTOLYR_NO_END: return "The message that starts here does not end in 7777: part of it is missing or damaged.";
-    case SKEPTOLYR_NO_SUCH_FIELD: return "The file has no field of this number. Fields are counted from 0.";
-    case SKEPTOLYR_BAD_IDENTIFICATION: return "Section 1, which starts here, is not the Japan Meteorological Agency's, or its time or status is not one that is read.";
-    case SKEPTOLYR_BAD_GRID: return "Section 3, which starts here, tells of a grid that is not read, or its numbers contradict one another.";
-    case SKEPTOLYR_BAD_PRODUCT: return "Section 4, which starts here, tells of a product that is not read, or its level or its times are not possible.";
-    case SKEPTOLYR_BAD_REPRESENTATION: return "Section 5, which starts here, tells of a packing that is not read, or a number in it is outside its limits.";
-    case SKEPTOLYR_BAD_BITMAP: return "Section 6, which starts here, gives no bitmap of this grid, or not as many points are present as there are values.";
-    case SKEPTOLYR_BAD_PACKING: return "Section 7, which starts here, does not hold what section 5 says: its groups or its length are wrong.";
-    case SKEPTOLYR_NO_ROOM: return "The field has more points than one of the two runs has room for behind the start position.";
-    case SKEPTOLYR_VALUE_OUT_OF_RANGE: return "Section 7, which starts here, unpacks to an integer below 0 or above 2,147,483,647.";
-    case SKEPTOLYR_NO_SUCH_POINT: return "The field has no point of this number. Points are counted from 0.";
-    case SKEPTOLYR_INPUT_TOO_LONG: return "The input is longer than 65,536 octets, the most that this program reads.";
-    case SKEPTOLYR_NOT_REBUILDABLE: return "No value can be rebuilt: R is not a finite number, or E, D or X is outside its limits.";
+    case SKEPTOLYR_TOO_LONG: return "The file is longer than 268,435,456 octets, the most that is read. Cut it between two messages, and ask about each part.";
+    case SKEPTOLYR_EMPTY: return "The file is empty: nothing of it has arrived. Fetch it again.";
+    case SKEPTOLYR_CUT: return "Damaged: the file ends inside the message that starts here, so part of it is missing. Fetch the file again.";
+    case SKEPTOLYR_NOT_GRIB2: return "Damaged, or of a kind that is not read yet: a message of GRIB edition 2 should start here, and these octets do not "
+        "start one. Fetch the file again. If it is refused again, use another reader.";
+    case SKEPTOLYR_BAD_LENGTH: return "Damaged: the length that is written here, of a message or of a section, cannot be right. Fetch the file again.";
+    case SKEPTOLYR_OUT_OF_PLACE: return "Damaged, or of a kind that is not read yet: a section 2 starts here, or a section that may not follow the one before "
+        "it, or the message ends here with a field unfinished. Fetch the file again. If it is refused again, use another reader.";
+    case SKEPTOLYR_NO_END: return "Damaged: the message that starts here does not end in 7777 where its length says, so part of it is missing or wrong. "
+        "Fetch the file again.";
+    case SKEPTOLYR_NO_SUCH_FIELD: return "The file has no field of this number. Fields are counted from 0, and skeptolyr_check tells how many there are.";
+    case SKEPTOLYR_BAD_IDENTIFICATION: return "Damaged, or of a kind that is not read yet: section 1, which starts here, is not the Japan Meteorological "
+        "Agency's, or has a time or a status that is not read. Fetch the file again. If it is refused again, use another reader.";
+    case SKEPTOLYR_BAD_GRID: return "Damaged, or of a kind that is not read yet: section 3, which starts here, has a grid that is not read (template 3.0 is), "
+        "or numbers that contradict one another. Fetch the file again. If it is refused again, use another reader.";
+    case SKEPTOLYR_BAD_PRODUCT: return "Damaged, or of a kind that is not read yet: section 4, which starts here, has a product that is not read (templates "
+        "4.0 and 4.8 are), or a level or a time that is not possible. Fetch the file again. If it is refused again, use another reader.";
+    case SKEPTOLYR_BAD_REPRESENTATION: return "Damaged, or of a kind that is not read yet: section 5, which starts here, has a packing that is not read "
+        "(templates 5.0 and 5.3 are), or a number outside its limits. Fetch the file again. If it is refused again, use another reader.";
+    case SKEPTOLYR_BAD_BITMAP: return "Damaged, or of a kind that is not read yet: section 6, which starts here, has no bitmap for this grid, or its bitmap "
+        "does not mark as many points as there are values. Fetch the file again. If it is refused again, use another reader.";
+    case SKEPTOLYR_BAD_PACKING: return "Damaged, or written wrongly: section 7, which starts here, does not hold what section 5 says; its groups or its "
+        "length are wrong. Fetch the file again. If it is refused again, tell those who wrote it.";
+    case SKEPTOLYR_NO_ROOM: return "The field has more points than one of the two arrays has room for after the start position. "
+        "Pass longer arrays: 16,777,216 elements have room for any field.";
+    case SKEPTOLYR_VALUE_OUT_OF_RANGE: return "Damaged, or written wrongly: section 7, which starts here, unpacks to an integer below 0 or above "
+        "2,147,483,647. Fetch the file again. If it is refused again, tell those who wrote it.";
+    case SKEPTOLYR_NO_SUCH_POINT: return "The field has no point of this number. Points are counted from 0: ask for one below the number of points.";
+    case SKEPTOLYR_INPUT_TOO_LONG: return "The input is longer than 65,536 octets, the most that skeptolyr-listing reads. "
+        "skeptolyr-draw and the functions for C read longer files.";
+    case SKEPTOLYR_NOT_REBUILDABLE: return "No value can be rebuilt: R is not a finite number, or E, D or X is outside its limits. Give numbers within them.";
     default: return "No refusal has this number.";
     }
 }
 
 /* ---- What an answer holds */
 
-/* Is it a refusal? */
+/* 1 where the answer is a refusal, and 0 where it is not. Ask this first: a part that the answer does not have is a number without a meaning. */
 static inline int skeptolyr_is_refusal(uint64_t answer)
 {
     return (answer >> 63) != 0;
@@ -143,25 +206,25 @@ static inline uint32_t skeptolyr_refusal_number(uint64_t answer)
     return answer >> 32 & 0x7fffffff;
 }
 
-/* A refusal's place in the file. */
+/* A refusal's place in the file, in octets from 0. */
 static inline uint32_t skeptolyr_refusal_place(uint64_t answer)
 {
     return answer & 0xffffffff;
 }
 
-/* How many messages a file has that skeptolyr_check accepts. */
+/* How many messages the file has, of an answer of skeptolyr_check that is no refusal. */
 static inline uint32_t skeptolyr_messages(uint64_t answer)
 {
     return answer >> 32 & 0x7fffffff;
 }
 
-/* How many fields a file has that skeptolyr_check accepts. */
+/* How many fields the file has, of an answer of skeptolyr_check that is no refusal. */
 static inline uint32_t skeptolyr_fields(uint64_t answer)
 {
     return answer & 0xffffffff;
 }
 
-/* How many points a field has that skeptolyr_decode decoded. */
+/* How many points the field has, of an answer of skeptolyr_decode that is no refusal. */
 static inline uint32_t skeptolyr_points(uint64_t answer)
 {
     return answer & 0xffffffff;

@@ -450,14 +450,15 @@ def misuse(draw):
 
 
 def refusals(draw):
-    """A refusal exits with 1 in exactly the words of the header, has advice, and leaves a picture that was there as it was."""
+    """A refusal exits with 1 in exactly the words of the header, then what draw alone knows of it, and leaves a picture that was there as it was."""
     cases = [
-        (b'', (), 2, 0, 'again'), (EXAMPLE[:210] + EXAMPLE, (), 7, 0, 'again'), (EXAMPLE + EXAMPLE[:-1], (), 3, 276, 'again'),
+        (b'', (), 2, 0, ''), (EXAMPLE[:210] + EXAMPLE, (), 7, 0, ''), (EXAMPLE + EXAMPLE[:-1], (), 3, 276, ''),
         (EXAMPLE, ('-f', '2'), 8, 0, '2 fields: '), (grib.grouped(), ('-f', '1'), 8, 0, '1 field: '), (EXAMPLE, ('-r', '3'), 15, 0, '3 points: '),
         (EXAMPLE, ('-r', '1'), 15, 0, '1 point: '), (grib.spliced(EXAMPLE, 37 + 14, b'\7'), (), 10, 37, '-j 37 ')]
     for file, words, number, place, advice in cases:
         draw.put(file)
-        said = r'\Adraw: %s: %s\ndraw: .*%s.*\n\Z' % (FILE, re.escape(manual.refused(number, place)), re.escape(advice))
+        more = r'draw: .*%s.*\n' % re.escape(advice) if advice else ''
+        said = r'\Adraw: %s: %s\n%s\Z' % (FILE, re.escape(manual.refused(number, place)), more)
         yield draw.ended(1, *words, FILE, PICTURE, says=said)
         draw.put(b'before', 'other.png')
         draw.run(*words, FILE, 'other.png')

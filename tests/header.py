@@ -1,13 +1,16 @@
 """include/skeptolyr.h, which is the manual: its table of refusals against document 01's and against the proved definition, its functions that take an
-answer apart against document 01's number, what it says of null pointers against the archive, and the compilers' view of it in C and C++. It ends in
-'N passed, M failed'.
+answer apart against document 01's number, the order of its parameters and what it says of memory against the archive, and the compilers' view of it in
+C and C++. It ends in 'N passed, M failed'.
 """
+import itertools
 import os
 import re
+import struct
 import subprocess
 import sys
 import tempfile
 
+from tests.help import reading
 from tests.help.manual import HEADER, refusals, text_of
 from tests.help.report import ended, judged
 from tools import TOP, archive, module
@@ -21,10 +24,21 @@ TABLE = [
     (11, 'BadProduct', 'section 4'), (12, 'BadRepresentation', 'section 5'), (13, 'BadBitmap', 'section 6'), (14, 'BadPacking', 'section 7'), (15, 'NoRoom', '0'),
     (16, 'ValueOutOfRange', 'section 7'), (17, 'NoSuchPoint', '0'), (18, 'InputTooLong', '65536'), (19, 'NotRebuildable', '0')]
 
-# Words of document 01 that a sentence has to have, so that two sentences cannot change places.
+# Words of the rules that the text of a refusal has to have, so that two texts cannot change places.
 WORDS = {
-    1: '268,435,456', 2: 'empty', 3: 'ends inside', 4: 'GRIB edition 2', 5: 'length', 6: 'may not follow', 7: '7777', 8: 'no field', 9: 'Section 1', 10: 'Section 3', 11: 'Section 4', 12: 'Section 5',
-    13: 'Section 6', 14: 'Section 7', 15: 'room', 16: '2,147,483,647', 17: 'no point', 18: '65,536', 19: 'rebuilt'}
+    1: '268,435,456', 2: 'empty', 3: 'ends inside', 4: 'GRIB edition 2', 5: 'length', 6: 'may not follow', 7: '7777', 8: 'no field', 9: 'section 1', 10: 'section 3',
+    11: 'section 4', 12: 'section 5', 13: 'section 6', 14: 'section 7', 15: 'room', 16: '2,147,483,647', 17: 'no point', 18: '65,536', 19: 'rebuilt'}
+
+# How the text of a refusal starts, and ends in what to do next: whether the file is damaged, or may also be of a kind that is not read.
+DAMAGED = ('Damaged: ', 'Fetch the file again.')
+EITHER = ('Damaged, or of a kind that is not read yet: ', 'Fetch the file again. If it is refused again, use another reader.')
+WRONGLY = ('Damaged, or written wrongly: ', 'Fetch the file again. If it is refused again, tell those who wrote it.')
+VERDICTS = {
+    **dict.fromkeys((3, 5, 7), DAMAGED), **dict.fromkeys((4, 6, 9, 10, 11, 12, 13), EITHER), **dict.fromkeys((14, 16), WRONGLY),
+    1: ('The file is longer than ', 'Cut it between two messages, and ask about each part.'), 2: ('The file is empty', 'Fetch it again.'),
+    8: ('The file has no field', 'skeptolyr_check tells how many there are.'), 15: ('The field has more points', 'Pass longer arrays: 16,777,216 elements have room for any field.'),
+    17: ('The field has no point', 'ask for one below the number of points.'), 18: ('The input is longer', 'skeptolyr-draw and the functions for C read longer files.'),
+    19: ('No value can be rebuilt', 'Give numbers within them.')}
 
 # Answers as document 01 gives them, and what each function of the header is to make of them.
 ANSWERS = [
@@ -74,12 +88,102 @@ def answers_are_right(folder, *language):
     sentences, numbers = lines[:21], lines[21:]
     faults = ['%s of %x: %s' % (function, answer, got) for (function, answer, want), got in zip(ANSWERS, numbers) if got != str(want)]
     faults += ['sentence %d: %s' % (number, sentences[number]) for number, word in WORDS.items() if word not in sentences[number] or not re.fullmatch(r'[A-Z].*\.', sentences[number])]
+    known = set(re.findall(r'\bskeptolyr_\w+(?=\()', text_of(HEADER))) | {'skeptolyr-draw', 'skeptolyr-listing'}
+    faults += ['text %d names %s' % (number, name) for number, text in enumerate(sentences) for name in re.findall(r'\bskeptolyr[-_]\w+', text) if name not in known]
+    faults += ['text %d does not say so: %s .. %s' % (number, *verdict) for number, verdict in VERDICTS.items() if not (sentences[number].startswith(verdict[0]) and sentences[number].endswith(verdict[1]))]
     faults += ['sentences of 0 and 20: %s' % sentences[0]] * (sentences[0] != 'No refusal has this number.' or sentences[20] != sentences[0])
     faults += ['two sentences are the same'] * (len(set(sentences[:20])) != 20)
     return judged('the header in %s' % language[2], faults)
 
 
-# ---- null pointers
+# ---- calls by the header's own names
+
+# A caller whose arrays are longer than it says, so that no wrong call reaches past them. Each double is set before to a NaN with a sign and a payload.
+CALLER = r'''
+#include <skeptolyr.h>
+#include <inttypes.h>
+#include <stdio.h>
+#include <stdlib.h>
+#include <string.h>
+
+enum { ROOM = 300 };
+static uint8_t file[ROOM], presence[ROOM];
+static double values[ROOM];
+
+int main(int argc, char **argv)
+{
+    const uint64_t nan = UINT64_C(0xfff0123456789abc);
+    size_t given[5], file_len, k, start, values_len, presence_len;
+    for (int i = 0; i < 5; i++)
+        given[i] = i + 1 < argc ? strtoul(argv[i + 1], NULL, 10) : 0;
+    file_len = given[0], k = given[1], start = given[2], values_len = given[3], presence_len = given[4];
+    if (fread(file, 1, ROOM, stdin) == 0)
+        return 2;
+    for (int i = 0; i < ROOM; i++) {
+        memcpy(values + i, &nan, sizeof nan);
+        presence[i] = 0xa5;
+    }
+    printf("%016" PRIx64 "\n", skeptolyr_check(CHECKED));
+    printf("%016" PRIx64 "\n", skeptolyr_decode(DECODED));
+    for (int i = 0; i < ROOM; i++) {
+        uint64_t bits;
+        memcpy(&bits, values + i, sizeof bits);
+        printf("%016" PRIx64 " %02x\n", bits, presence[i]);
+    }
+    return 0;
+}
+'''
+ROOM = 300
+# No two are equal, and a call in which two of them have changed places has another outcome.
+GIVEN = {'file_len': 276, 'k': 1, 'start': 2, 'values_len': 9, 'presence_len': 7}
+
+
+def parameters(function):
+    """The names of a function's parameters, in the header's order."""
+    return re.findall(r'(\w+)[,)]', re.search(r'^\w[\w ]* %s\(([^)]*\));' % function, text_of(HEADER), re.M).group(1))
+
+
+def caller(folder):
+    """The command that calls check and decode with each argument where the header has the parameter of its name."""
+    source = os.path.join(folder, 'caller.c')
+    with open(source, 'w', encoding='ascii') as text:
+        text.write(CALLER.replace('CHECKED', ', '.join(parameters('skeptolyr_check'))).replace('DECODED', ', '.join(parameters('skeptolyr_decode'))))
+    return archive.program('skeptolyr', source)
+
+
+def called(command, sample, numbers):
+    done = subprocess.run([*command, *map(str, numbers)], input=sample, stdout=subprocess.PIPE, check=True)
+    return done.stdout.decode().split('\n')[:-1]
+
+
+def wanted(sample, file_len, k, start, values_len, presence_len):
+    """What the caller is to print, by the independent reading: two answers, and every element, those outside the field as they were."""
+    points, present, _, doubles = reading.decode(sample[:file_len], k, start, values_len, presence_len)
+    elements = [(0xfff0123456789abc, 0xa5)] * ROOM
+    elements[start:start + points] = [(*struct.unpack('>Q', struct.pack('>d', double)), int(bit)) for double, bit in zip(doubles, present)]
+    return ['%016x' % (1 << 32 | 2), '%016x' % points] + ['%016x %02x' % element for element in elements]
+
+
+def parameters_are_in_order(folder):
+    """Called by the names of its parameters, the archive answers as the rules say, and not if two numbers change places. Which array has which length makes
+    no difference to any answer, so of these two the header alone tells: each array's length follows it."""
+    with open(os.path.join(TOP, 'samples', 'two-fields.grib2'), 'rb') as file:
+        sample = file.read()
+    command, numbers = caller(folder), list(GIVEN.values())
+    told, said = wanted(sample, *numbers), called(command, sample, numbers)
+    faults = ['line %d: expected %s, got %s' % (number, *pair) for number, pair in enumerate(zip(told, said), 1) if pair[0] != pair[1]][:5]
+    for one, other in itertools.combinations(range(len(numbers)), 2):
+        swapped = numbers[:]
+        swapped[one], swapped[other] = numbers[other], numbers[one]
+        if {one, other} != {3, 4} and called(command, sample, swapped) == told:
+            faults.append('%s and %s can change places' % (list(GIVEN)[one], list(GIVEN)[other]))
+    for function in ('skeptolyr_check', 'skeptolyr_decode'):
+        names = parameters(function) + ['']
+        faults += ['%s: %s is followed by %s' % (function, name, after) for name, after in zip(names, names[1:]) if name in ('file', 'values', 'presence') and after != name + '_len']
+    return judged("the order of parameters, and every bit of a NaN outside the field", faults)
+
+
+# ---- null pointers, and memory that was never written
 
 def null_is_taken():
     """A null pointer whose length is 0 is an empty file, refused by 2, or a run without room, refused by 15, and nothing is written elsewhere."""
@@ -97,9 +201,19 @@ def nothing_is_assumed():
     return judged('what the compiler is told of pointers', faults + re.findall(r'.*\b(?:nonnull|dereferenceable|noalias)\b.*', text))
 
 
+def arrays_are_only_written(folder):
+    """The optimiser finds that decode reads no element of either array, and keeps neither pointer, so that memory which was never written may be passed."""
+    found = os.path.join(folder, 'optimised.ll')
+    module.run(module.tool('clang'), '--target=x86_64-unknown-linux-gnu', '-O3', '-S', '-emit-llvm', '-Wno-override-module', '-x', 'ir', module.text('skeptolyr'), '-o', found)
+    head = re.search(r'^define [^@]*@skeptolyr_decode\((.*)\) ', text_of(found), re.M).group(1)
+    arrays = [parameter for parameter, name in zip(re.split(r', (?=ptr|i64)', head), parameters('skeptolyr_decode')) if name in ('values', 'presence')]
+    return judged('arrays that are only written', [head] * (len(arrays) != 2 or any('writeonly' not in words or 'captures(none)' not in words for words in arrays)))
+
+
 def main():
     results = [table_is_right(), definition_is_the_same(), null_is_taken(), nothing_is_assumed()]
     with tempfile.TemporaryDirectory() as folder:
+        results += [parameters_are_in_order(folder), arrays_are_only_written(folder)]
         results += [answers_are_right(folder, *language) for language in LANGUAGES]
     return ended(results)
 

@@ -13,10 +13,10 @@ def text_of(path):
 
 
 def refusals():
-    """The header's refusals: constant, number, place, and the sentence that stands behind the constant in skeptolyr_refusal_text."""
-    sentences = dict(re.findall(r'^    case (\w+): return "(.*)";$', text_of(HEADER), re.M))
+    """The header's refusals: constant, number, place, and the words that follow the constant in skeptolyr_refusal_text, whose string may be cut in two."""
+    strings = dict(re.findall(r'^    case (\w+): return ((?:"[^"]*"\s*)+);$', text_of(HEADER), re.M))
     rows = re.findall(r'^    (SKEPTOLYR_\w+) = +(\d+),? +/\* (.*) \*/$', text_of(HEADER), re.M)
-    return [(name, int(number), place, sentences.get(name)) for name, number, place in rows]
+    return [(name, int(number), place, ''.join(re.findall(r'"([^"]*)"', strings.get(name, '')))) for name, number, place in rows]
 
 
 def refused(number, place):
