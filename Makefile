@@ -1,6 +1,6 @@
 # The targets for daily work. `tools/test` and `tools/sample` need no make.
 .DEFAULT_GOAL := help
-.PHONY: help sample test soak bench peers fuzz check lib examples picture build install uninstall dev fmt house believed clean
+.PHONY: help sample test soak bench peers fuzz check lib examples picture man build install uninstall dev fmt house believed clean
 
 help: ## List the targets.
 	@awk -F ':.*## ' '/^[a-z]+:.*## / { printf "  make %-9s %s\n", $$1, $$2 }' $(MAKEFILE_LIST)
@@ -34,6 +34,9 @@ examples: ## Prove the reader, and compile the example programs over it, target/
 
 picture: ## Draw the picture of the README anew.
 	@python3 -m tests.readme --picture
+
+man: ## Write the manual pages, made from the header, into target/man: man -l target/man/skeptolyr.3 shows one.
+	@python3 tools/manual.py target/man
 
 build: ## Prove and build what make install installs, for those who will install as root.
 	@tools/install build

@@ -50,7 +50,7 @@ HEADER = manual.text_of(manual.HEADER)
 VERSION = re.search(r'^#define SKEPTOLYR_VERSION "(.*)"$', HEADER, re.M).group(1)
 REFUSALS = manual.refusals()
 # The declaration of every function that the header declares or defines.
-DECLARATIONS = {name: declaration + ';' for declaration, name in re.findall(r'^(\w[\w ]*[ *](skeptolyr_\w+)\([^)]*\))(?:;|\n\{)', HEADER, re.M)}
+DECLARATIONS = {name: ' '.join(declaration.split()) + ';' for declaration, name in re.findall(r'^(\w[\w ]*[ *](skeptolyr_\w+)\([^)]*\))(?:;|\n\{)', HEADER, re.M)}
 NAMES = set(DECLARATIONS) | set(re.findall(r'^#define (SKEPTOLYR_\w+) ', HEADER, re.M)) | {name for name, _, _, _ in REFUSALS}
 
 
@@ -348,6 +348,21 @@ def pages_name_what_is_there(scratch):
                 yield '%s: no page %s(%s)' % (page, name, section)
 
 
+def comments_are_told(scratch):
+    """Every sentence of the header's comments on what it declares stands in a page of section 3, word for word, and the code that it shows too."""
+    pages = [in_long_lines(scratch, page)[0] for page in PAGES if page.endswith('.3')]
+    shown = ' '.join(' '.join(pages).replace('(3)', '').split())
+    found = 0
+    for comment in re.findall(r'^/\* (?!----)(.*?)\*/', HEADER, re.M | re.S):
+        plain = re.sub(r'(?m)^ \* ?', '', comment).replace('`', '')
+        for part in re.split(r'\n\s*\n|\n(?= +- |Takes |Returns |Never )', plain):
+            words = ' '.join(re.sub(r'\A\s*(- |---- |Takes |Returns |Never )', '', part).split())
+            found += len(words.split())
+            yield from ('not told: ' + sentence for sentence in re.split(r'(?<=[.:?;]) ', words) if sentence not in shown)
+    if found < 500:
+        yield 'only %d words of comments were found' % found
+
+
 def refusals_are_those_of_the_header(scratch):
     """skeptolyr.3 lists every refusal with the number, the place and the sentence that the header gives it, in its order, and no other."""
     text = part(in_long_lines(scratch, 'share/man/man3/skeptolyr.3')[0], 'ERRORS')
@@ -383,7 +398,7 @@ def uninstalls(scratch):
 
 TESTS = [
     installs, installs_again, installs_what_is_built, nothing_old_is_taken, packages, refuses_aloud, links, links_from_a_path_with_spaces, programs_run,
-    pages_render, example_in_the_manual, version_is_that_of_the_header, synopses_are_those_of_the_header, pages_name_what_is_there,
+    pages_render, example_in_the_manual, version_is_that_of_the_header, synopses_are_those_of_the_header, pages_name_what_is_there, comments_are_told,
     refusals_are_those_of_the_header, pages_show_what_programs_print, uninstalls]
 
 
