@@ -22,12 +22,12 @@ class Refusal(NamedTuple):
 
 # One of each that C can be given. Every file is one of `samples`, but for the first: it is TOO_LONG octets of zero, which are not kept.
 REFUSALS = [
-    Refusal(1, 0, 'too-long.grib2', 'one octet more than the longest file that is taken'),
+    Refusal(1, 0, 'too-long.grib2', 'one octet more than the longest file that is read'),
     Refusal(2, 0, 'refused/02-empty.grib2', 'a transfer that never began'),
     Refusal(3, 276, 'refused/03-cut.grib2', 'a transfer that was cut inside the second of two messages'),
     Refusal(4, 276, 'refused/04-edition.grib2', 'a second message that says it is of edition 1'),
     Refusal(5, 37, 'refused/05-length.grib2', 'one wrong bit in the length of section 3, which then runs past the message'),
-    Refusal(6, 37, 'refused/06-local-use.grib2', 'a section 2, which is not taken'),
+    Refusal(6, 37, 'refused/06-local-use.grib2', 'a section 2, which is not read yet'),
     Refusal(7, 0, 'accident.grib2', 'a transfer that was cut inside one message, with the next following directly'),
     Refusal(8, 0, 'two-fields.grib2', 'field 2 of a file that has fields 0 and 1', field=2),
     Refusal(9, 16, 'refused/09-centre.grib2', 'a file of centre 7, where the Agency is centre 34'),
@@ -36,7 +36,7 @@ REFUSALS = [
     Refusal(12, 143, 'refused/12-scale.grib2', 'a decimal scale factor D of 23, where 22 is the largest'),
     Refusal(13, 164, 'refused/13-bitmap.grib2', 'a bitmap with three points present, and two values'),
     Refusal(14, 200, 'refused/14-groups.grib2', 'groups of nine values in all, and ten values'),
-    Refusal(15, 0, 'two-fields.grib2', 'a field of four points, and runs with room for three', room=3),
+    Refusal(15, 0, 'two-fields.grib2', 'a field of four points, and arrays with room for three', room=3),
     Refusal(16, 200, 'refused/16-difference.grib2', 'differences that lead to an integer below 0'),
 ]
 
