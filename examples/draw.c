@@ -128,7 +128,7 @@ static struct request read_request(int argc, char **argv)
             request.room = number_between(1, SKEPTOLYR_MOST_POINTS, optarg, "POINTS is not a number of points that a field can have: ");
             break;
         default:
-            misused(option == ':' ? "there is no number behind the option " : "there is no option ", letter);
+            misused(option == ':' ? "there is no number after the option " : "there is no option ", letter);
         }
     }
     if (argc - optind != 2)
