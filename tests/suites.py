@@ -26,7 +26,7 @@ SUITES = [
     Suite('samples', 21, 'the samples: one of each refusal, put to the example programs'),
     Suite('drawing', 9, 'pictures of fields, pixel by pixel'),
     Suite('install', 18, 'what make install installs, and its pages against the header'),
-    Suite('readme', 3, 'the README: what its commands print, and its picture'),
+    Suite('readme', 5, 'the README: what its commands print, its picture, and which files it says are read'),
 ]
 
 # What several suites use, by the module that builds it and the words it is given. It is built before they start, so that no two of them build it at once.
