@@ -25,7 +25,7 @@
  *
  * ---- What you must guarantee
  *
- * No proof reaches into your program, so it is you who must guarantee this:
+ * No proof covers the program that calls these functions, so you must guarantee this:
  *   - `file` points to `file_len` octets that can be read, and nothing changes them during the call. A file that is mapped into memory must not
  *     become shorter during the call.
  *   - `values` and `presence` point to arrays with as many elements as their lengths say. They can be written, and nothing else reads or writes
@@ -53,13 +53,12 @@
  *
  * ---- What the proofs leave out
  *
- * The proofs speak of the values in your arrays. C and the processor know more of memory than that, so these three are tested or measured, and not
- * proved:
- *   - The sign and the payload of a NaN. To the proofs all NaNs are one value. Where one stands in `values` outside the elements that are written,
- *     each of its 64 bits stays as it was.
- *   - Memory that was never written. To the proofs every element has a value before the call. Fresh memory from malloc is fine all the same: no
- *     element of `values` or `presence` is read, and those of the field are written.
- *   - The stack. The functions took at most 2,048 octets of it, as much for the largest file as for the smallest.
+ * The proofs speak of the values in your arrays, and C knows more of memory than values. Three things are tested or measured, and not proved:
+ *   - The sign and the payload of a NaN. In the proofs all NaNs are one value. If `values` has NaNs in elements that decode does not write, all 64
+ *     bits of each stay as they were.
+ *   - Memory that was never written. In the proofs every element has a value before the call. You may pass fresh memory from malloc all the same:
+ *     decode reads no element of `values` and `presence`. It writes the elements of the field, and after a refusal none has been written.
+ *   - The stack. When measured, the functions took at most 2,048 octets of it, as much for the largest file as for the smallest.
  *
  * ---- How to link
  *
