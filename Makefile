@@ -36,7 +36,7 @@ picture: ## Draw the picture of the README anew.
 	@python3 -m tests.readme --picture
 
 man: ## Write the manual pages, made from the header, into target/man: man -l target/man/skeptolyr.3 shows one.
-	@python3 tools/manual.py target/man
+	@python3 -m tools.manual target/man
 
 build: ## Prove and build what make install installs, for those who will install as root.
 	@tools/install build

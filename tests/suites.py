@@ -25,7 +25,7 @@ SUITES = [
     Suite('evidence', 56, 'the independent decoder, on files made and damaged by the hundred thousand', processors=2),
     Suite('samples', 21, 'the samples: one of each refusal, put to the example programs'),
     Suite('drawing', 9, 'pictures of fields, pixel by pixel'),
-    Suite('install', 18, 'what make install installs, and its pages against the header'),
+    Suite('install', 19, 'what make install installs, and its pages against the header'),
     Suite('readme', 5, 'the README: what its commands print, its picture, and which files it says are read'),
 ]
 

@@ -1,5 +1,7 @@
-#!/usr/bin/env python3
-"""manual.py FOLDER: writes the manual pages into a folder, which is made if it is not there. Without a FOLDER it prints their names.
+"""Writes the manual pages.
+
+  python3 -m tools.manual FOLDER    write them into a folder, which is made if it is not there
+  python3 -m tools.manual           print their names
 
 What a page says as include/skeptolyr.h says it is taken from the header's comments, so that it stands once. What a page alone has stands in
 docs/man/PAGE.in. There @VERSION@ is the header's version, and a line that starts with @ stands for a part of the header:
@@ -20,7 +22,8 @@ import os
 import re
 import sys
 
-TOP = os.path.dirname(os.path.dirname(os.path.abspath(__file__)))
+from tools import TOP
+
 PAGES = os.path.join(TOP, 'docs', 'man')
 # The most columns of a declaration: a page is shown in 80, of which 7 are left free.
 COLUMNS = 71
@@ -212,7 +215,7 @@ def pages():
 
 def main():
     if len(sys.argv) > 2:
-        sys.exit('usage: manual.py FOLDER, with the folder that the pages are written into')
+        sys.exit('usage: python3 -m tools.manual FOLDER, with the folder that the pages are written into')
     if len(sys.argv) == 1:
         print('\n'.join(sorted(pages())))
         return
