@@ -4,7 +4,7 @@
  *
  * FIELD is counted from 0, and is 0 if not given. POINTS is how many points there is to be room for, on a machine with little memory.
  *
- * How Skeptolyr is asked stands in `main`, `lend`, `decode` and `refuse`; `grid_in_force` finds two numbers in the file that no answer has. All else
+ * How Skeptolyr is asked stands in `main`, `map_file`, `decode` and `refuse`; `grid_in_force` finds two numbers in the file that no answer has. All else
  * is about pictures: a colour for each point, a scale with numbers beneath, and a PNG of these.
  *
  * It exits with 0 when there is a picture, 1 when the file or the field is refused, and 2 when something else has failed. */
@@ -153,7 +153,7 @@ struct octets {
 };
 
 /* The octets of a file, mapped until the program ends: only what is read is fetched. Nothing may change or cut the file meanwhile. */
-static struct octets lend(const char *name)
+static struct octets map_file(const char *name)
 {
     struct stat status;
     int file = open(name, O_RDONLY);
@@ -162,13 +162,13 @@ static struct octets lend(const char *name)
     if (!S_ISREG(status.st_mode))
         give_up(name, "is not a regular file", 0, "Save the octets in one, and name that");
     /* A file of 0 octets cannot be mapped. The library takes a null pointer for it, and refuses it in its own words. */
-    struct octets lent = {NULL, (size_t)status.st_size};
-    if (lent.length > 0)
-        lent.first = mmap(NULL, lent.length, PROT_READ, MAP_PRIVATE, file, 0);
-    if (lent.first == MAP_FAILED)
+    struct octets mapped = {NULL, (size_t)status.st_size};
+    if (mapped.length > 0)
+        mapped.first = mmap(NULL, mapped.length, PROT_READ, MAP_PRIVATE, file, 0);
+    if (mapped.first == MAP_FAILED)
         give_up(name, "cannot be mapped into memory", errno, "Close other programs, or take a machine with more memory");
     close(file);
-    return lent;
+    return mapped;
 }
 
 /* A number in so many octets, the first counting most. */
@@ -626,7 +626,7 @@ int main(int argc, char **argv)
     struct request request = read_request(argc, argv);
     if (are_one_file(request.file, request.picture))
         give_up(request.picture, "is the GRIB file itself", 0, "Name another picture");
-    struct octets file = lend(request.file);
+    struct octets file = map_file(request.file);
 
     show("checking", file.length, " octets");
     uint64_t checked = skeptolyr_check(file.first, file.length);
