@@ -86,16 +86,18 @@ extern "C" {
 
 /* Checks a file of one or more messages: do messages fill the file, and do sections fill each message, with no gap and in the order of the standard?
  *
- * A message that was cut, or that runs into the next one, is found in this way. It does not look at what the sections say: a field of a file that is
- * accepted can still be refused by skeptolyr_decode. Two kinds of damage can be seen by no reader. A file that was cut between two messages has whole
- * messages only. And a number may have become another number that is allowed: GRIB has no checksum.
+ * In a file that is accepted every octet belongs to a message, and every message ends in 7777 where its length says. The sections of a message follow
+ * one another as the standard allows: section 1, then one grid or more. A grid is section 3, then one field or more. A field is sections 4, 5, 6 and 7.
+ * So a message that was cut, or that runs into the next one, is found.
+ *
+ * It does not look at what the sections say: a field of a file that is accepted can still be refused by skeptolyr_decode. Two kinds of damage can be
+ * seen by no reader. A file that was cut between two messages has whole messages only. And a number may have become another number that is allowed: GRIB
+ * has no checksum.
  *
  * Takes    the file. It reads little more than the head of each message and of each section, so a large file takes no longer than a small one with as
  *          many of them.
  * Returns  messages x 2^32 + fields, from which skeptolyr_messages and skeptolyr_fields take the two counts; or a refusal from 1 to 7.
- * Never    accepts a file in which an octet belongs to no message, in which a message does not end in 7777 where its length says, or in which the
- *          sections of a message do not follow one another as the standard allows: section 1, then one grid or more; a grid is section 3 and then one
- *          field or more; a field is sections 4, 5, 6 and 7.
+ * Never    accepts any other file.
  */
 uint64_t skeptolyr_check(const uint8_t *file, size_t file_len);
 
@@ -122,8 +124,8 @@ uint64_t skeptolyr_decode(const uint8_t *file, size_t file_len, size_t k, size_t
 /* A refusal says why a question is not answered, and skeptolyr_refusal_text puts it into words. Places are counted in octets from 0, the start of the
  * file. The place of a section or of a message is where it starts.
  *
- * Where several reasons apply, the first in this order is given: 1 and 2, which are about the file's length; 3 to 7, of which the one that is met first
- * in the file; 8; 9 to 14, the sections of the field; then 17, or 15 and after it 16.
+ * Where several reasons apply, the first of them is given, in this order. First come 1 and 2, which are about the file's length. Then comes that of 3
+ * to 7 which is met first in the file. Then come 8, and 9 to 14, which are about the sections of the field. The last are 17, or 15 and then 16.
  */
 enum skeptolyr_refusal {
     /* The name                        number    the place */
@@ -143,7 +145,7 @@ enum skeptolyr_refusal {
     SKEPTOLYR_BAD_PACKING =            14,    /* section 7 */
     SKEPTOLYR_NO_ROOM =                15,    /* 0 */
     SKEPTOLYR_VALUE_OUT_OF_RANGE =     16,    /* section 7 */
-    /* The questions that C asks give none of these: 18 is the program listing's, the others are questions in Rattle. */
+    /* No function of this header gives these: 18 is given by the program skeptolyr-listing, and 17 and 19 by questions in Rattle. */
     SKEPTOLYR_NO_SUCH_POINT =          17,    /* 0 */
     SKEPTOLYR_INPUT_TOO_LONG =         18,    /* 65536 */
     SKEPTOLYR_NOT_REBUILDABLE =        19     /* 0 */

@@ -204,7 +204,7 @@ def page(source, header):
 def pages():
     """Each page's name and text."""
     header, found, homes = Header(text_of('include', 'skeptolyr.h')), {}, {}
-    for name in sorted(os.listdir(PAGES)):
+    for name in sorted(name for name in os.listdir(PAGES) if name.endswith('.in')):
         source = text_of(PAGES, name)
         found[name[:-len('.in')]] = page(source, header)
         homes.update({function: name[:-len('.in')] for function in re.findall(r'\bskeptolyr_\w+', ''.join(re.findall(r'^@synopsis .*$', source, re.M)))})
