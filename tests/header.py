@@ -207,7 +207,7 @@ def arrays_are_only_written(folder):
     module.run(module.tool('clang'), '--target=x86_64-unknown-linux-gnu', '-O3', '-S', '-emit-llvm', '-Wno-override-module', '-x', 'ir', module.text('skeptolyr'), '-o', found)
     head = re.search(r'^define [^@]*@skeptolyr_decode\((.*)\) ', text_of(found), re.M).group(1)
     arrays = [parameter for parameter, name in zip(re.split(r', (?=ptr|i64)', head), parameters('skeptolyr_decode')) if name in ('values', 'presence')]
-    return judged('arrays that are only written', [head] * (len(arrays) != 2 or any('writeonly' not in words or 'captures(none)' not in words for words in arrays)))
+    return judged('arrays that are only written', [head] * (len(arrays) != 2 or not all(re.search(r'\bwriteonly\b.*\b(captures\(none\)|nocapture\b)', words) for words in arrays)))
 
 
 def main():
