@@ -9,7 +9,7 @@
  * A field is its numbers, which the program lists, its point count, the double of each point, and the presence of each point in one octet.
  *
  * Some readers print what they notice. That goes to standard error, wherever they print it. */
-#include "../numbers.h"
+#include "../help/numbers.h"
 
 #include <string.h>
 #include <unistd.h>
