@@ -1,6 +1,6 @@
 """Damaged files, from document 01 alone: one good file of three messages, and what can befall it. Each kind of damage has a name in plain words.
 
-Where nothing else is said, the damage is in the middle message, so that a reader has a good message before it and another behind it.
+Where nothing else is said, the damage is in the middle message, so that a reader has a good message before it and another after it.
 """
 from samples import shapes
 from tests.help import grib
@@ -129,8 +129,8 @@ def transfers():
         ('64 octets in the middle are zeros', written_over(place(SECOND[5], 30), bytes(64))),
         ('each line feed became two octets, as in text mode', file.replace(b'\n', b'\r\n')),
         ('the top bit of every octet was lost', bytes(octet & 127 for octet in file)),
-        ('8 zeros behind the last message', file + bytes(8)),
-        ('40 other octets behind the last message', file + b'x' * 40),
+        ('8 zeros after the last message', file + bytes(8)),
+        ('40 other octets after the last message', file + b'x' * 40),
         ('a line of text before the first message', b'Content-Type: application/grib\r\n\r\n' + file),
         ('a line of text between two messages', file[:third] + b'-- the next part follows here --\r\n' + file[third:]),
         ('two messages interleaved', file[:second] + interleaved(file[second:third], file[third:])),

@@ -24,7 +24,7 @@ static const struct key keys_before_validity[] = {
     {"iDirectionIncrement", 0}, {"jDirectionIncrement", 0}, {"parameterCategory", 0}, {"parameterNumber", 0}, {"typeOfFirstFixedSurface", 0},
     {"scaleFactorOfFirstFixedSurface", 1}, {"scaledValueOfFirstFixedSurface", 1}, {"productDefinitionTemplateNumber", 0}, {NULL, 0}};
 static const struct key keys_before_reference[] = {{"numberOfValues", 0}, {"bitmapPresent", 0}, {"dataRepresentationTemplateNumber", 0}, {NULL, 0}};
-static const struct key keys_behind_reference[] = {{"binaryScaleFactor", 0}, {"decimalScaleFactor", 0}, {"bitsPerValue", 0}, {NULL, 0}};
+static const struct key keys_after_reference[] = {{"binaryScaleFactor", 0}, {"decimalScaleFactor", 0}, {"bitsPerValue", 0}, {NULL, 0}};
 /* The key that only `partly` tells: where the rows begin. */
 static const struct key keys_of_damage[] = {{"scanningMode", 0}, {NULL, 0}};
 
@@ -100,7 +100,7 @@ static int tell_field(codes_handle *handle, struct told *told)
     if (error == CODES_SUCCESS)
         error = tell_reference(handle, told);
     if (error == CODES_SUCCESS)
-        error = tell_keys(handle, keys_behind_reference, told);
+        error = tell_keys(handle, keys_after_reference, told);
     if (error == CODES_SUCCESS && told->partly)
         error = tell_keys(handle, keys_of_damage, told);
     if (error == CODES_SUCCESS)

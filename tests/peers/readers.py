@@ -56,27 +56,30 @@ def ran(command, octets=b''):
 
 # ---- programs in C
 
-def told_things(octets, numbers):
-    """What a program told of one file, in the form that told.h describes under `partly`. A field has so many numbers."""
+def told_files(octets, numbers):
+    """What a program told of each file, in the form that told.h describes under `partly`: its fields, and its errors. A field has so many numbers."""
     def number():
         nonlocal at
         at += 8
         return int.from_bytes(octets[at - 8:at], 'big')
 
-    at, fields, errors = 0, [], []
-    for thing in range(number()):
-        error = number()
-        if error:
-            errors.append((thing, error))
-            continue
-        says = [number() for _ in range(numbers)]
-        points = number()
+    def field(thing):
+        nonlocal at
+        says, points = [number() for _ in range(numbers)], number()
         doubles, presence = octets[at:at + 8 * points], octets[at + 8 * points:at + 9 * points]
         at += 9 * points
-        fields.append(Field(thing, says, doubles, presence))
+        return Field(thing, says, doubles, presence)
+
+    at, found = 0, []
+    while at < len(octets):
+        fields, errors = [], []
+        for thing in range(number()):
+            error = number()
+            (errors if error else fields).append((thing, error) if error else field(thing))
+        found.append((fields, errors))
     if at != len(octets):
         sys.exit('readers: a program wrote what cannot be read')
-    return fields, errors
+    return found
 
 
 class Program:
@@ -99,7 +102,7 @@ class Program:
         done = ran(self.command + ['partly'], grib.number(len(file), 8) + file)
         if done.ended == 'ends with %d' % OWN_FAULT:
             sys.exit('readers: %s' % done.printed)
-        fields, errors = ([], []) if done.ended else told_things(done.octets, self.numbers)
+        fields, errors = ([], []) if done.ended else told_files(done.octets, self.numbers)[0]
         fields = [field._replace(says=[number for at, number in enumerate(field.says) if at not in self.packing]) for field in fields]
         return Told(fields, errors, done.printed, done.ended)
 
