@@ -14,7 +14,7 @@ import sys
 import time
 
 from tests import fields
-from tests.evidence import rules
+from tests.evidence import encoder, rules
 from tests.evidence.faults import FAULTS
 from tests.help import SEED as SEED_OF_TESTS, report
 from tests.help.faulty import FAULTS as FAULTY, RENAMED
@@ -200,7 +200,7 @@ def whole():
     listing = program_of_kit('listing')
     results += [asked(program, 'listing', SEED, LISTINGS, '--', *listing), samples_listed(listing)]
     results.append(asked(program, 'rebuild', SEED, REBUILDS, '--', *program_of_kit('tests_ask')))
-    results += [tried(program, name, SEED) for name in ('vectors', 'tests_ask')] + eccodes(program)
+    results += [tried(program, name, SEED) for name in ('vectors', 'tests_ask')] + eccodes(program) + encoder.results()
     return report.ended(results)
 
 
