@@ -324,7 +324,7 @@ def demands_name_what_is_there():
 
 def evidence_is_counted():
     """docs/EVIDENCE.md, docs/PEERS.md and the README count the faults, the rules and the kinds of damage as the tests do."""
-    from tests.evidence import faults, rules
+    from tests.evidence import encoder, faults, rules
     from tests.help import faulty
     from tests.peers import damage
     damages = len(damage.kinds())
@@ -333,6 +333,7 @@ def evidence_is_counted():
         ('docs/EVIDENCE.md', '%d faults are put into copies' % len(faults.FAULTS)), ('README.md', '%d faulty copies' % len(faults.FAULTS)),
         ('docs/EVIDENCE.md', '%d faults stand between' % (len(faulty.FAULTS) - 1)), ('docs/EVIDENCE.md', '%d files on either side of each rule' % len(list(rules.told()))),
         ('docs/DEMANDS.md', '%d files on either side of each rule' % len(list(rules.told()))), ('docs/EVIDENCE.md', kinds + ' kinds of damage'),
+        ('docs/EVIDENCE.md', '%d fields are encoded' % len(encoder.varied_fields())), ('docs/EVIDENCE.md', '%d constant fields' % len(encoder.constant_fields())),
         ('docs/EVIDENCE.md', '%d damaged files' % damages), ('README.md', '%d damaged files' % damages), ('docs/PEERS.md', 'damages it in %d ways' % damages)]
     for name, words in wanted:
         if words not in ' '.join(lines_of(name)):
@@ -364,6 +365,46 @@ def sample_is_the_sample():
             yield 'crates/theorems_demands/specs/Sample.antt'
 
 
+# The texts that people read, but for docs/SPEC.md, which is made. Those that C programmers read have C's words for what is passed to a function.
+FOR_C = ['README.md', 'include/skeptolyr.h', 'samples/README.md', 'docs/EVIDENCE.md']
+TEXTS = [name for name in FILES if name in FOR_C or re.fullmatch(r'(CONTRIBUTING|tests/README|docs/(?!SPEC)\w+)\.md|docs/man/.*\.in', name)]
+# A word, and the plainer one.
+PLAINER = {r'\bbehind\b': 'after', r'\bno sum\b': 'no checksum'}
+PLAINER_FOR_C = {r'\b(lent|lends?)\b(?!\.c)': 'passed', r'\b(the|two|both|a|each|larger) runs?\b': 'array', r'\bowes?\b': 'must guarantee'}
+
+
+def prose(name):
+    """The lines of a text with their numbers, but for tables, and for code and output, which stand between fences or are set in by four columns."""
+    fenced = False
+    for number, line in enumerate(lines_of(name), 1):
+        fenced ^= line.startswith('```')
+        if not name.endswith('.md') or not fenced and not line.startswith(('|', '    ')):
+            yield number, line
+
+
+def texts_are_narrow():
+    """Lines of text have fewer than 160 characters; tables, code and output are apart."""
+    for name in TEXTS:
+        yield from ('%s:%d: %d characters' % (name, number, len(line)) for number, line in prose(name) if len(line) >= 160)
+
+
+def words_are_plain():
+    """Texts have the ordinary word where it serves, and those that C programmers read have C's words."""
+    for name in TEXTS:
+        words = {**PLAINER, **(PLAINER_FOR_C if name in FOR_C or name.endswith('.in') else {})}
+        for number, line in enumerate(lines_of(name), 1):
+            yield from ('%s:%d: %s is "%s"' % (name, number, found.group(), plainer) for word, plainer in words.items() for found in re.finditer(word, line))
+
+
+def links_lead_somewhere():
+    """Every link from one text to a file of the tree leads to a file that is there."""
+    for name in TEXTS:
+        for number, line in enumerate(lines_of(name) if name.endswith('.md') else [], 1):
+            for path in re.findall(r'\]\((?!https?:|#)([^)#]+)', line):
+                if not os.path.exists(os.path.join(os.path.dirname(name), path)):
+                    yield '%s:%d: no %s' % (name, number, path)
+
+
 def own_words():
     """No tracked file names a path of a machine."""
     roots = '|'.join(('wo' + 'rk', 'ho' + 'me', 'ro' + 'ot', 'op' + 't/rattle'))
@@ -381,7 +422,7 @@ RULES = [
     crates_are_listed, lowest_first, sources_in_crates, layout, must_fail_edits, opening_comments, printed_places, unused_names, short_functions,
     contracts_fit, names_mean_one_thing, code_stands_on_code, nothing_asked_of_users, outcomes_are_determined, demands_are_listed,
     demands_are_stated, promises_stand_in_specs, definitions_are_read, trust_is_counted, demands_name_what_is_there, evidence_is_counted, version_is_told,
-    sample_is_the_sample, own_words,
+    sample_is_the_sample, texts_are_narrow, words_are_plain, links_lead_somewhere, own_words,
 ]
 
 

@@ -22,7 +22,7 @@ SUITES = [
     Suite('tiling', 3, 'the archive that C links against an independent reading'),
     Suite('fields', 7, 'descriptions, places and listings against an independent reading'),
     Suite('decoding', 12, 'every double and every presence against an independent reading'),
-    Suite('evidence', 56, 'the independent decoder, on files made and damaged by the hundred thousand', processors=2),
+    Suite('evidence', 59, 'the independent decoder, on files made and damaged by the hundred thousand', processors=2),
     Suite('samples', 21, 'the samples: one of each refusal, put to the example programs'),
     Suite('drawing', 9, 'pictures of fields, pixel by pixel'),
     Suite('install', 19, 'what make install installs, and its pages against the header'),
