@@ -1,10 +1,16 @@
--- The laws of the listing: how long its texts are at mostOctets, and which listing an input has.
-use mathlib.Core.Path.{_≡_, ap, _∙_}
+-- The laws of the listing: how long its texts are at most, and which listing an input has.
+use mathlib.Core.Path.{_≡_, refl, sym, ap, _∙_}
 use mathlib.Core.List.{List, _++_}
+use mathlib.Core.Bool.{true, false}
 use Prim.Native.Nat.{ℕ, zero, suc, _+_, _*_, _≤_, _<_}
 use native.Mathlib.Omega.{arith}
-use lib.ListN.{length, drop, length-append}
-use borrow.Author.Tests.{lt-ltb, le-ltb}
+use lib.Dec.{ltb}
+use lib.IntN.{ℤ, pos, negsuc}
+use lib.Signed.{ltZ}
+use lib.ListN.{length, take, drop, length-append, length-take}
+use lib.Seq.{length-take-le, take-all}
+use borrow.Author.Tests.{ltb-true, ltb-false, lt-ltb, le-ltb}
+use Rattle.octets.proofs.Cases.{apart, split}
 use Rattle.refusals.specs.declared.Refusal.{Refusal}
 use Rattle.refusals.specs.declared.Why.the-variants as Why
 use Rattle.refusals.specs.Refusals.{refusal}
@@ -17,7 +23,8 @@ use Rattle.question.specs.Describe.{describe}
 use Rattle.text.specs.Text.{Puts, ascii, decimal}
 use Rattle.text.proofs.Laws.{decimal-short}
 use Rattle.listing_lines.proofs.Laws.{refusal-short, field-short}
-use Rattle.listing_file.specs.Listing.{answerText, lineOf, linesOf, countText, refusedLine, mostOctets, listingOf}
+use Rattle.listing_file.specs.declared.Printout.{Printout}
+use Rattle.listing_file.specs.Listing.{answerText, lineOf, linesOf, countText, refusedLine, mostOctets, listingOf, ReadFrom, unreadableText, printedText, Prints}
 
 -- What is put at the start of a run lies inside it.
 pub start-inside : (a u : List ℕ) {b : List ℕ} {r : ℕ} → Puts a 0 u b r → r ≤ length b
@@ -56,3 +63,42 @@ listing-taken input m n short taken = rw (le-ltb mostOctets (length input) short
 pub listing-refused : (input : List ℕ) (r : Refusal) → length input ≤ mostOctets → check input ≡ Checked.Refused r → listingOf input ≡ refusedLine r
 unfolding listingOf
 listing-refused input r short told = rw (le-ltb mostOctets (length input) short, told)
+
+-- So many octets of an input are enough to list it, where they are more than the most that are taken: they are all of it, or too many.
+begun-listed : (whole : List ℕ) (n : ℕ) → mostOctets < n → listingOf (take n whole) ≡ listingOf whole
+begun-listed whole n enough = split (ltb n (length whole)) (λ more. more-listed (ltb-true _ _ more)) (λ all. ap listingOf (take-all n whole (ltb-false _ _ all)))
+  where
+    more-listed : n < length whole → listingOf (take n whole) ≡ listingOf whole
+    more-listed more =
+        let as-many = length-take-le n whole (omega arith) in
+        listing-too-long (take n whole) (omega (arith, as-many)) ∙ sym (listing-too-long whole (omega arith))
+
+pub read-listed : (whole run : List ℕ) (got : ℕ) → mostOctets < length run → ReadFrom whole run got → listingOf (take got run) ≡ listingOf whole
+read-listed whole run got enough read = ap listingOf read ∙ begun-listed whole (length run) enough
+
+-- What reading has put into a run is an input by itself, so that what is printed is one text, and lies inside its run.
+itself : (run : List ℕ) (got : ℕ) → ReadFrom (take got run) run got
+itself run got = sym (take-all (length run) (take got run) (omega (arith, length-take got run)))
+
+module _ {run : List ℕ} {got : ℕ} {again : ℤ} {a : List ℕ} where
+  pub print-inside : {b : List ℕ} {p : Printout} → Prints run got again a b p → p .length ≤ length b
+  print-inside told = start-inside a (printedText again (take got run)) (told .puts (take got run) (itself run got))
+
+  pub print-one : {b c : List ℕ} {p q : Printout} → Prints run got again a b p → Prints run got again a c q → (p ≡ q) × (b ≡ c)
+  print-one told other =
+      let first = told .puts (take got run) (itself run got) in
+      let second = other .puts (take got run) (itself run got) in
+      let way = told .goesOut ∙ sym (other .goesOut) in
+      let many = first .1 ∙ sym (second .1) in
+      (λ i. record { way = way i; length = many i }, first .0 ∙ sym (second .0))
+
+-- The two printouts: of an input that cannot be read, and of one that reading has put into a run that is long enough.
+module _ {run : List ℕ} {got : ℕ} {a b : List ℕ} {r : ℕ} where
+  pub prints-unreadable : {again : ℤ} → ltZ again (pos 0) ≡ true → Puts a 0 unreadableText b r → Prints run got again a b (record { way = pos 2; length = r })
+  prints-unreadable {again = pos n} below put = absurd (omega (arith, ltb-true n 0 below))
+  prints-unreadable {again = negsuc n} below put = record { puts = λ whole read. put; goesOut = refl }
+
+  pub prints-listing :
+      {again : ℤ} → mostOctets < length run → ltZ again (pos 0) ≡ false → Puts a 0 (listingOf (take got run)) b r → Prints run got again a b (record { way = pos 1; length = r })
+  prints-listing {again = pos n} enough read-to put = record { puts = λ whole read. rw (sym (read-listed whole run got enough read)) put; goesOut = refl }
+  prints-listing {again = negsuc n} enough read-to put = apart cc

@@ -1,9 +1,11 @@
 -- Document 01, "Listing": the lines for a file on standard input.
 use Prim.Native.Nat.{ℕ, zero, suc}
+use mathlib.Core.Path.{_≡_}
 use mathlib.Core.Bool.{cond}
 use mathlib.Core.List.{List, [], _++_}
 use lib.Dec.{ltb}
-use lib.ListN.{length}
+use lib.ListN.{length, take}
+use lib.IntN.{ℤ, pos, negsuc}
 use Rattle.refusals.specs.declared.Refusal.{Refusal}
 use Rattle.refusals.specs.declared.Why.the-variants as Why
 use Rattle.refusals.specs.Refusals.{refusal}
@@ -13,8 +15,9 @@ use Rattle.tiling.specs.Tiling.{check}
 use Rattle.question.specs.declared.Described.{Described}
 use Rattle.question.specs.declared.Described.the-variants as Described
 use Rattle.question.specs.Describe.{describe}
-use Rattle.text.specs.Text.{ascii, decimal}
+use Rattle.text.specs.Text.{Puts, ascii, decimal}
 use Rattle.listing_lines.specs.Lines.{refusalText, fieldText}
+use Rattle.listing_file.specs.declared.Printout.{Printout}
 
 -- The most octets that the program takes.
 abbrev pub mostOctets : ℕ
@@ -46,3 +49,25 @@ checkedText file (Checked.Refused r) = refusedLine r
 -- An input that is too long is refused before all else.
 unfoldable pub listingOf : List ℕ → List ℕ
 listingOf input = cond (ltb mostOctets (length input)) (refusedLine (refusal Why.InputTooLong mostOctets)) (checkedText input (check input))
+
+-- Reading has put the input `whole` at the start of a run: all of it, or as much as the run holds. It is `got` octets long there.
+abbrev pub ReadFrom : List ℕ → List ℕ → ℕ → Type 0
+ReadFrom whole run got = take got run ≡ take (length run) whole
+
+-- Where reading stops it is tried once more: it answers 0 or more at the end of the input, and -1 where the input cannot be read. What is printed then,
+-- and by which of POSIX's ways out: 1 is standard output, and 2 is standard error.
+abbrev pub unreadableText : List ℕ
+unreadableText = ascii "listing: standard input cannot be read\n"
+
+abbrev pub printedText : ℤ → List ℕ → List ℕ
+printedText (pos _) whole = listingOf whole
+printedText (negsuc _) whole = unreadableText
+
+abbrev pub wayOut : ℤ → ℤ
+wayOut (pos _) = pos 1
+wayOut (negsuc _) = pos 2
+
+-- What is put is what is to be printed of the whole input, whichever input it is that reading has put into the run.
+pub record Prints (run : List ℕ) (got : ℕ) (again : ℤ) (before after : List ℕ) (p : Printout) : Type 0 where
+  pub puts : (whole : List ℕ) → ReadFrom whole run got → Puts before 0 (printedText again whole) after (p .length)
+  pub goesOut : p .way ≡ wayOut again

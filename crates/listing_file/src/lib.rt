@@ -3,12 +3,18 @@
 ghost use Prim.Native.Nat.{_+_, _*_, _≤_};
 ghost use lib.ListN.{length};
 ghost use Rattle.text.specs.Text.{Puts};
-ghost use Rattle.listing_file.specs.Listing.{lineOf, linesOf, refusedLine, listingOf};
+ghost use Rattle.listing_file.specs.Listing.{lineOf, linesOf, refusedLine, listingOf, Prints};
 use octets::FilePlace;
 use question::Described;
 use refusals::Refusal;
 use refusals::Why;
 use tiling::Checked;
+
+// What a program is to write: so many octets of its text, by the way out that has this number.
+pub struct Printout {
+    pub way: i32,
+    pub length: usize,
+}
 
 // Puts the line of field `k`.
 fn put_line(run: &mut [u8], at: usize, file: &[u8], k: usize) -> usize
@@ -52,7 +58,7 @@ fn put_refused(run: &mut [u8], refusal: Refusal) -> usize
     text::put(run, told, b"\n")
 }
 
-// Puts the whole listing of an input at the start of the run, and answers how long it is. A file of 65,536 octets has at mostOctets 3,276 fields.
+// Puts the whole listing of an input at the start of the run, and answers how long it is. A file of 65,536 octets has at most 3,276 fields.
 pub fn list(run: &mut [u8], input: &[u8]) -> usize
     requires { ⌜ 655360 ≤ length (now run) ⌝ }
     ensures { λ r. ⌜ Puts (now (run .entry)) 0 (listingOf (now (input .entry))) (now (run .exit)) r ⌝ }
@@ -77,4 +83,20 @@ pub fn list(run: &mut [u8], input: &[u8]) -> usize
         }
         Checked::Refused(refusal) => put_refused(run, refusal),
     }
+}
+
+// Puts what is to be printed of a program's input. Reading has put `got` octets of it into `run`, and then answered `again` where it was tried once more.
+// A run of 65,537 octets is needed to tell an input of 65,536 octets from a longer one.
+pub fn print(text: &mut [u8], run: &[u8], got: usize, again: isize) -> Printout
+    requires { ⌜ 65537 ≤ length (now run) ⌝ }
+    requires { ⌜ got ≤ length (now run) ⌝ }
+    requires { ⌜ 655360 ≤ length (now text) ⌝ }
+    ensures { λ r. ⌜ Prints (now (run .entry)) got again (now (text .entry)) (now (text .exit)) r ⌝ }
+{
+    if again < 0 {
+        let length = text::put(text, 0, b"listing: standard input cannot be read\n");
+        return Printout { way: 2, length };
+    }
+    let length = list(text, &run[..got]);
+    Printout { way: 1, length }
 }

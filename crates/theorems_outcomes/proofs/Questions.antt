@@ -9,6 +9,7 @@ use Rattle.skeptolyr.proofs as skeptolyr
 use Rattle.tests_tell.proofs as tests-tell
 use Rattle.listing_lines.proofs as listing-lines
 use Rattle.listing_file.proofs as listing-file
+use Rattle.listing_file.proofs.Laws.{print-one}
 
 -- What is described, how a question is judged, and where a point is placed.
 pub question-describe : Determined question.describe.ended (λ _. question.describe.clauses)
@@ -50,3 +51,7 @@ listing-lines-put-field _ 𝓤 _ _ _ _ _ _ _ _ _ _ _ _ = one 𝓤 (λ p q. (alik
 -- The whole listing, in the same way.
 pub listing-file-list : Determined listing-file.list.ended (λ _. listing-file.list.clauses)
 listing-file-list _ 𝓤 _ _ _ _ _ _ _ _ _ _ _ _ = one 𝓤 (λ p q. (alike (p .1) (q .1), λ i. (alike (p .0) (q .0) i, (tt, tt))))
+
+-- What is printed of an input: how much of the text by which way out, and what the text holds afterwards.
+pub listing-file-print : Determined listing-file.print.ended (λ _. listing-file.print.clauses)
+listing-file-print _ 𝓤 _ _ _ _ _ _ _ _ _ _ _ _ = one 𝓤 (λ p q. (print-one p q .0, λ i. (print-one p q .1 i, (tt, (tt, (tt, tt))))))

@@ -85,8 +85,8 @@ returns-2 c =
     let number = put .before .before .before .before .before in
     let input = start number .args .input .now in
     let n = fields number in
-    let mostOctets-lines : length (linesOf input n) ≤ 655332 = omega (arith, lines-short input n, few number) in
-    let all = told-then (linesOf input n) 655332 0 (told-count put) mostOctets-lines (lines .put-lines .ensures) in
+    let lines-fit : length (linesOf input n) ≤ 655332 = omega (arith, lines-short input n, few number) in
+    let all = told-then (linesOf input n) 655332 0 (told-count put) lines-fit (lines .put-lines .ensures) in
     rw (listing-taken input _ n (short number) (taken number)) (all .put)
 
 same-length-3 : tie.Need-same-length-3

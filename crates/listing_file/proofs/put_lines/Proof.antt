@@ -22,7 +22,7 @@ abbrev μ-loop : tie.MeasureT-loop
 abbrev lines : (c : tie.At-loop Inv-loop μ-loop) → List ℕ
 lines c = linesOf (c .before .before .before .args .file .now) (c .loop .k)
 
--- What is put so far fits, since a line takes at mostOctets 192 octets.
+-- What is put so far fits, since a line takes at most 192 octets.
 told : (c : tie.At-loop Inv-loop μ-loop) → let a = c .before .before .before .args in Told (a .run .now) (a .at) (lines c) 0 (c .loop .run) (c .loop .end)
 told c =
     let a = c .before .before .before .args in
