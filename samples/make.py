@@ -82,16 +82,21 @@ def table():
         yield '| %d | %d | %s | %s |' % (refusal.number, refusal.place, asked, refusal.what)
 
 
+def longest_listed():
+    """A file of 65,536 octets, which is as long as the program `listing` takes one: one field, whose section 7 fills what is left."""
+    two = grib.two_fields()
+    start, end = two[16:171], 4
+    return grib.message(start, grib.section(7, bytes(65536 - 16 - len(start) - 5 - end)))
+
+
 def listing_sample():
-    """What the program `listing` reads and prints when it is tried: document 01's file, and the lines that it prints in so many words."""
-    return {
-        'stdin': grib.two_fields(),
-        'stdout': b'2 fields\n0 0/0/0 103 2x2 20170515130000 2\n1 0/1/8 1 2x2 20170515130000 2\n',
-    }
+    """What the program `listing` reads and prints when `rt ci` tries it. Its contract says what is printed of the octets that were read, and none can
+    say how many are read. So they are one more than are taken: a program that reads one octet less lists the file before it."""
+    return {'stdin': longest_listed() + b'\0', 'stdout': b'refused 18 at 65536\n'}
 
 
 def main():
-    """Writes the samples here, and the first of them, with its listing, as the program `listing`'s own; and prints the rows of README.md's table."""
+    """Writes the samples here, and what the program `listing` is tried on where that program stands; and prints the rows of README.md's table."""
     program = os.path.join(os.path.dirname(HERE), 'crates', 'listing')
     for folder, files in ((HERE, samples()), (program, listing_sample())):
         for name, octets in files.items():
