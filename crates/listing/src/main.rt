@@ -9,5 +9,5 @@ fn main() {
     let mut text = [0u8; 655360];
     let printout = listing_file::print(&mut text, &input, got, again);
     let length = printout.length;
-    io::write_all(printout.way, &text[..length]);
+    io::write_all(printout.descriptor, &text[..length]);
 }

@@ -88,17 +88,17 @@ module _ {run : List ℕ} {got : ℕ} {again : ℤ} {a : List ℕ} where
   print-one told other =
       let first = told .puts (take got run) (itself run got) in
       let second = other .puts (take got run) (itself run got) in
-      let way = told .goesOut ∙ sym (other .goesOut) in
+      let descriptor = told .printsTo ∙ sym (other .printsTo) in
       let many = first .1 ∙ sym (second .1) in
-      (λ i. record { way = way i; length = many i }, first .0 ∙ sym (second .0))
+      (λ i. record { descriptor = descriptor i; length = many i }, first .0 ∙ sym (second .0))
 
 -- The two printouts: of an input that cannot be read, and of one that reading has put into a run that is long enough.
 module _ {run : List ℕ} {got : ℕ} {a b : List ℕ} {r : ℕ} where
-  pub prints-unreadable : {again : ℤ} → ltZ again (pos 0) ≡ true → Puts a 0 unreadableText b r → Prints run got again a b (record { way = pos 2; length = r })
+  pub prints-unreadable : {again : ℤ} → ltZ again (pos 0) ≡ true → Puts a 0 unreadableText b r → Prints run got again a b (record { descriptor = pos 2; length = r })
   prints-unreadable {again = pos n} below put = absurd (omega (arith, ltb-true n 0 below))
-  prints-unreadable {again = negsuc n} below put = record { puts = λ whole read. put; goesOut = refl }
+  prints-unreadable {again = negsuc n} below put = record { puts = λ whole read. put; printsTo = refl }
 
   pub prints-listing :
-      {again : ℤ} → mostOctets < length run → ltZ again (pos 0) ≡ false → Puts a 0 (listingOf (take got run)) b r → Prints run got again a b (record { way = pos 1; length = r })
-  prints-listing {again = pos n} enough read-to put = record { puts = λ whole read. rw (sym (read-listed whole run got enough read)) put; goesOut = refl }
+      {again : ℤ} → mostOctets < length run → ltZ again (pos 0) ≡ false → Puts a 0 (listingOf (take got run)) b r → Prints run got again a b (record { descriptor = pos 1; length = r })
+  prints-listing {again = pos n} enough read-to put = record { puts = λ whole read. rw (sym (read-listed whole run got enough read)) put; printsTo = refl }
   prints-listing {again = negsuc n} enough read-to put = apart cc

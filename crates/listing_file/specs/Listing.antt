@@ -50,12 +50,12 @@ checkedText file (Checked.Refused r) = refusedLine r
 unfoldable pub listingOf : List ℕ → List ℕ
 listingOf input = cond (ltb mostOctets (length input)) (refusedLine (refusal Why.InputTooLong mostOctets)) (checkedText input (check input))
 
--- Reading has put the input `whole` at the start of a run: all of it, or as much as the run holds. It is `got` octets long there.
+-- Reading has put `got` octets of the input `whole` at the start of a run: all of it, or as much as the run holds.
 abbrev pub ReadFrom : List ℕ → List ℕ → ℕ → Type 0
 ReadFrom whole run got = take got run ≡ take (length run) whole
 
 -- Where reading stops it is tried once more: it answers 0 or more at the end of the input, and -1 where the input cannot be read. What is printed then,
--- and by which of POSIX's ways out: 1 is standard output, and 2 is standard error.
+-- and to which file descriptor: 1 is standard output, and 2 is standard error.
 abbrev pub unreadableText : List ℕ
 unreadableText = ascii "listing: standard input cannot be read\n"
 
@@ -63,11 +63,11 @@ abbrev pub printedText : ℤ → List ℕ → List ℕ
 printedText (pos _) whole = listingOf whole
 printedText (negsuc _) whole = unreadableText
 
-abbrev pub wayOut : ℤ → ℤ
-wayOut (pos _) = pos 1
-wayOut (negsuc _) = pos 2
+abbrev pub descriptorFor : ℤ → ℤ
+descriptorFor (pos _) = pos 1
+descriptorFor (negsuc _) = pos 2
 
 -- What is put is what is to be printed of the whole input, whichever input it is that reading has put into the run.
 pub record Prints (run : List ℕ) (got : ℕ) (again : ℤ) (before after : List ℕ) (p : Printout) : Type 0 where
   pub puts : (whole : List ℕ) → ReadFrom whole run got → Puts before 0 (printedText again whole) after (p .length)
-  pub goesOut : p .way ≡ wayOut again
+  pub printsTo : p .descriptor ≡ descriptorFor again

@@ -10,9 +10,9 @@ use refusals::Refusal;
 use refusals::Why;
 use tiling::Checked;
 
-// What a program is to write: so many octets of its text, by the way out that has this number.
+// What a program is to write: so many octets of its text, to the file descriptor that has this number.
 pub struct Printout {
-    pub way: i32,
+    pub descriptor: i32,
     pub length: usize,
 }
 
@@ -95,8 +95,14 @@ pub fn print(text: &mut [u8], run: &[u8], got: usize, again: isize) -> Printout
 {
     if again < 0 {
         let length = text::put(text, 0, b"listing: standard input cannot be read\n");
-        return Printout { way: 2, length };
+        return Printout {
+            descriptor: 2,
+            length,
+        };
     }
     let length = list(text, &run[..got]);
-    Printout { way: 1, length }
+    Printout {
+        descriptor: 1,
+        length,
+    }
 }

@@ -52,6 +52,6 @@ listing-lines-put-field _ 𝓤 _ _ _ _ _ _ _ _ _ _ _ _ = one 𝓤 (λ p q. (alik
 pub listing-file-list : Determined listing-file.list.ended (λ _. listing-file.list.clauses)
 listing-file-list _ 𝓤 _ _ _ _ _ _ _ _ _ _ _ _ = one 𝓤 (λ p q. (alike (p .1) (q .1), λ i. (alike (p .0) (q .0) i, (tt, tt))))
 
--- What is printed of an input: how much of the text by which way out, and what the text holds afterwards.
+-- What is printed of an input: how much of the text, to which file descriptor, and what the text holds afterwards.
 pub listing-file-print : Determined listing-file.print.ended (λ _. listing-file.print.clauses)
 listing-file-print _ 𝓤 _ _ _ _ _ _ _ _ _ _ _ _ = one 𝓤 (λ p q. (print-one p q .0, λ i. (print-one p q .1 i, (tt, (tt, (tt, tt))))))
