@@ -20,7 +20,7 @@ SUITES = [
     Suite('header', 12, 'the header, which is the manual, against the rules and the proved definition'),
     Suite('leaves', 6, 'the leaf layers against computations of their own'),
     Suite('tiling', 3, 'the archive that C links against an independent reading'),
-    Suite('fields', 7, 'descriptions, places and listings against an independent reading'),
+    Suite('fields', 8, 'descriptions, places and listings against an independent reading'),
     Suite('decoding', 12, 'every double and every presence against an independent reading'),
     Suite('evidence', 59, 'the independent decoder, on files made and damaged by the hundred thousand', processors=2),
     Suite('samples', 21, 'the samples: one of each refusal, put to the example programs'),

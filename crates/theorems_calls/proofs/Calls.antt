@@ -9,7 +9,8 @@ use base.Logic.{ent, sep, id⊢}
 use contract.Fact.{fact, factI, fact-use}
 use lib.Dec.{ltb}
 use lib.ListN.{length}
-use Rattle.octets.proofs.Cases.{split}
+use lib.IntN.{ℤ, pos, negsuc}
+use Rattle.octets.proofs.Cases.{apart, split}
 use Rattle.refusals.specs.declared.Refusal.{Refusal}
 use Rattle.refusals.specs.Refusals.{numberOf, codeOf}
 use Rattle.refusals.proofs.Laws.{numbered}
@@ -24,14 +25,15 @@ use Rattle.question_decode.specs.declared.Decoded as declaredDecoded
 use Rattle.question_decode.specs.declared.Decoded.the-variants as Decoded
 use Rattle.question_decode.proofs.Laws.{Small as DecodedSmall, decode-small}
 use Rattle.skeptolyr.specs.Codes.{checkCode, decodeCode}
-use Rattle.listing_file.specs.Listing.{mostOctets, lineOf, linesOf, checkedText, listingOf}
+use Rattle.listing_file.specs.declared.Printout.{Printout}
+use Rattle.listing_file.specs.Listing.{mostOctets, lineOf, linesOf, checkedText, listingOf, Prints}
 use Rattle.theorems_demands.specs.Questions.{Question, verdict, refusedBy, ofChecked, ofDescribed, ofDecoded, check, describe}
 use Rattle.theorems_demands.specs.Demand2.{BothRuns, Call, answerTo, leftBehind}
 use Rattle.theorems_demands.proofs.Demand1.{demand-1}
 use Rattle.theorems_demands.proofs.Demand2.{demand-2}
 use Rattle.theorems_demands.proofs.Demand3.{demand-3}
 use Rattle.theorems_outcomes.proofs.Facts.{follows}
-use Rattle.theorems_calls.specs.Calls.{Refuses, Checks, decodeOf, runsOf, callOf, DecodeKeeps, Line, Lines, Listed, Calls, RattleCalls}
+use Rattle.theorems_calls.specs.Calls.{Refuses, Checks, decodeOf, runsOf, callOf, DecodeKeeps, Line, Lines, Listed, ListingPrints, Calls, RattleCalls}
 use Rattle.theorems_calls.specs.Calls as Spec
 
 module _ (file : List ℕ) where
@@ -114,6 +116,19 @@ module _ (file : List ℕ) where
           subst (λ (k : ℕ). Listed file (checkedText file (Checked.Counts m k))) (tiled .2) (Spec.Listed.accepted few (tiled .1) (lines-so (length (tiled .0))))
       by few (Checked.Refused r) said = Spec.Listed.refused few (demand-1 file .refuses check _ _ .0 (ap ofChecked said))
 
+-- What is printed is the listing of the input that was read, or that it cannot be read.
+prints-so : (run : List ℕ) (got : ℕ) (again : ℤ) (before after : List ℕ) (p : Printout) → Prints run got again before after p → ListingPrints run got again before after p
+prints-so run got (pos m) before after p h =
+    record {
+      listed = λ n same whole read. (record { text = listingOf whole; listed = listed-so whole; put = h .puts whole read }, h .printsTo);
+      unreadable = λ n same whole read. apart cc;
+    }
+prints-so run got (negsuc m) before after p h =
+    record {
+      listed = λ n same whole read. apart cc;
+      unreadable = λ n same whole read. (h .puts whole read, h .printsTo);
+    }
+
 -- What follows from the clauses of a contract, where it has one, and where it has three.
 module _ {M : Type 1} (𝓤 : URA M) where
   from-one : {φ χ : Type 0} → (φ → χ) → ent 𝓤 (fact 𝓤 φ) (fact 𝓤 χ)
@@ -133,6 +148,7 @@ calls =
           (decodes-by (given .0 .now)
           (callOf (given .1 .0) (given .1 .1 .0) (runsOf (given .1 .1 .1 .0 .now) (given .1 .1 .1 .1 .0 .now))) answer (runsOf (lasts .1 .1 .1 .0) (lasts .1 .1 .1 .1 .0)));
       list = λ _ 𝓤 _ _ _ _ _ given _ answer lasts. from-one 𝓤 (λ p. record { text = listingOf (given .1 .0 .now); listed = listed-so (given .1 .0 .now); put = p });
+      print = λ _ 𝓤 _ _ _ _ _ given _ answer lasts. from-one 𝓤 (prints-so (given .1 .0 .now) (given .1 .1 .0) (given .1 .1 .1 .0) (given .0 .now) (lasts .0) answer);
     }
 
 pub rattle-calls : RattleCalls

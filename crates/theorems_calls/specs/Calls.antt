@@ -5,6 +5,7 @@ use mathlib.Core.Path.{_≡_}
 use mathlib.Core.List.{List, [], _++_}
 use lib.Ieee.{Float}
 use lib.ListN.{length}
+use lib.IntN.{ℤ, pos, negsuc}
 use Rattle.tiling_sections.specs.declared.Located.{Located}
 use Rattle.theorems_grammar.specs.Grammar.{Accepted}
 use Rattle.section_3_geometry.specs.Positions.{pointsOf}
@@ -12,6 +13,8 @@ use Rattle.question.specs.declared.Description.{Description}
 use Rattle.question.specs.Judged.{Judged}
 use Rattle.text.specs.Text.{ascii, decimal, Puts}
 use Rattle.listing_lines.specs.Lines.{fieldText}
+use Rattle.listing_file.specs.declared.Printout.{Printout}
+use Rattle.listing_file.specs.Listing.{ReadFrom, unreadableText}
 use Rattle.theorems_demands.specs.Questions.{Question, check, describe, decode}
 use Rattle.theorems_demands.specs.Demand1.{FieldAt, Applies, First}
 use Rattle.theorems_demands.specs.Demand2.{BothRuns, Call, Decodes, answerTo, leftBehind}
@@ -87,6 +90,12 @@ pub record Lists (input before after : List ℕ) (behind : ℕ) : Type 0 where
   pub listed : Listed input text
   pub put : Puts before 0 text after behind
 
+-- What a call of listing_file::print has put: the program `listing` hands it what it has read of its input, and what reading answered when it was tried once
+-- more. The listing of the whole input is for standard output. Where the input cannot be read, a line for standard error says so.
+pub record ListingPrints (run : List ℕ) (got : ℕ) (again : ℤ) (before after : List ℕ) (p : Printout) : Type 0 where
+  pub listed : (n : ℕ) → again ≡ pos n → (whole : List ℕ) → ReadFrom whole run got → Lists whole before after (p .length) × (p .descriptor ≡ pos 1)
+  pub unreadable : (n : ℕ) → again ≡ negsuc n → (whole : List ℕ) → ReadFrom whole run got → Puts before 0 unreadableText after (p .length) × (p .descriptor ≡ pos 2)
+
 -- A call of decode by its parameters: k, start, and the two runs.
 abbrev pub runsOf : List Float → List ℕ → BothRuns
 runsOf values presence = record { values = values; presence = presence }
@@ -95,7 +104,7 @@ abbrev pub callOf : ℕ → ℕ → BothRuns → Call
 callOf k start before = record { k = k; start = start; before = before }
 
 -- The promises, of the contracts that the checker proves of the functions. What is given are their parameters in order: of decode file, k, start, values and
--- presence; of list the run and the input.
+-- presence; of list the text and the input; of print the text, the run that was read into, and the two answers of reading.
 pub record Calls : Type 2 where
   pub check : Promises skeptolyr.skeptolyr_check.ended (λ _. skeptolyr.skeptolyr_check.clauses) (λ _ given answer _. Checks (given .0 .now) answer)
   pub decode :
@@ -106,6 +115,9 @@ pub record Calls : Type 2 where
       answer
       (runsOf (lasts .1 .1 .1 .0) (lasts .1 .1 .1 .1 .0)))
   pub list : Promises listing.list.ended (λ _. listing.list.clauses) (λ _ given answer lasts. Lists (given .1 .0 .now) (given .0 .now) (lasts .0) answer)
+  pub print :
+      Promises listing.print.ended (λ _. listing.print.clauses)
+      (λ _ given answer lasts. ListingPrints (given .1 .0 .now) (given .1 .1 .0) (given .1 .1 .1 .0) (given .0 .now) (lasts .0) answer)
 
 -- The questions in Rattle: each answers what the demands speak of, and decode leaves the runs that they speak of.
 pub record RattleCalls : Type 2 where
