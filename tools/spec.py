@@ -268,6 +268,7 @@ def main():
     else:
         with open(PAGE, 'w', encoding='utf-8') as file:
             file.write(page)
+        print('docs/SPEC.md has %d lines' % page.count('\n'))
     return 0
 
 
