@@ -23,7 +23,8 @@ MOST = 159
 AFTER = {
     'The demands': 'What is promised of every file, every question and every call. [DEMANDS.md](DEMANDS.md) has them sentence by sentence.',
     'The theorems': 'What is proved, as it is stated; the proofs stand below these lines in their files.',
-    'The contracts': 'What the checker proves of the functions that users call. `r` is the answer; `now (x .entry)` is what x holds when the call begins, `now (x .exit)` when it ends.',
+    'The contracts': 'What the checker proves of the functions that users call. `r` is the answer; `now (x .entry)` is what x holds when the call begins, and '
+                     '`now (x .exit)` is what it holds when the call ends.',
 }
 
 OPENING = """# The definitions
@@ -142,10 +143,9 @@ def head_of(file):
     """The head that a file's definitions belong to."""
     if not file.split('/')[1] == 'specs':
         return 'The contracts' if file.endswith('.rt') else 'The theorems'
-    lines = believed.file_of(file).lines
-    opening = ' '.join(lines[:next(number for number, line in enumerate(lines) if not line.startswith('--'))])
-    title = re.search(r'RULES, "([^"]+)"', opening)
-    if title is None and not opening.startswith('-- Demand'):
+    first = ' '.join(opening(file))
+    title = re.search(r'RULES, "([^"]+)"', first)
+    if title is None and not first.startswith('-- Demand'):
         sys.exit('crates/%s: its first comment names no head of docs/RULES.md' % file)
     title = title.group(1) if title else 'The demands'
     if title not in [head for _, head in heads()]:
@@ -180,9 +180,23 @@ def prose(comment):
     return textwrap.wrap(words, 150, break_long_words=False, break_on_hyphens=False) + [''] if words else []
 
 
-def shown(block, before):
-    """A block as lines of the page: its file, where another one came before; its comment; and its code."""
+def opening(file):
+    """The first comment of a file."""
+    lines = believed.file_of(file).lines
+    return lines[:next(number for number, line in enumerate(lines) if not believed.is_comment(line))]
+
+
+def purpose(file):
+    """The same without the head that it names, where that is all that comes before a colon."""
+    words = re.sub(r'^-- RULES, "[^"]+"(?: and "[^"]+")*: ', '', '\n'.join(opening(file)))
+    return [line if line.startswith('--') else '-- ' + line[0].upper() + line[1:] for line in words.split('\n')]
+
+
+def shown(block, before, seen):
+    """A block as lines of the page: its file, where another one came before it; what a file of definitions is for, where it comes first; its comment and code."""
     file = [] if before == block.file else ['<sub>[%s](../crates/%s)</sub>' % (block.file, block.file), '']
+    if '/specs/' in block.file and block.file not in seen:
+        file += ['> ' + line for line in prose(purpose(block.file))[:-1]] + ['']
     return file + prose(block.comment) + ['```'] + [part for line in block.code() for part in broken(line)] + ['```', '']
 
 
@@ -248,14 +262,15 @@ def kept(found):
 
 def text():
     """The whole page."""
-    full, lines, before = kept(chapters()), [], None
+    full, lines, before, seen = kept(chapters()), [], None, set()
     for marks, title in heads():
         if title in full:
             link = AFTER.get(title) or 'The rule: [RULES, "%s"](RULES.md#%s).' % (title, anchor(title))
             lines += ['%s %s' % (marks, title), '', *textwrap.wrap(link, 150, break_on_hyphens=False), '']
         for block in full.get(title, ()):
-            lines += shown(block, before)
+            lines += shown(block, before, seen)
             before = block.file
+            seen.add(before)
     return '\n'.join([OPENING % (MOST + 1)] + contents(full) + lines)
 
 
