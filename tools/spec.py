@@ -8,6 +8,7 @@ stands where it is named first. The first comment of a file of definitions names
 statements of the theorems, and the contracts of the functions that users call. What is believed is found by the module that counts it.
 
 The page is plain Markdown. A browser that shows it prints it; as plain text it fits a sheet of A4 on its side, in letters of 8 points."""
+import functools
 import os
 import re
 import sys
@@ -74,9 +75,10 @@ class Block:
         return sum(1 for line in self.code() if line.strip() and not believed.is_comment(line))
 
 
+@functools.lru_cache(None)
 def groups(file):
-    """For each definition of a file, believed or not, the line that its comment is above: that of the module around it, or the last one with a comment. Between
-    two statements of proofs/ or of src/ there is other text, so that each of these stands alone."""
+    """For each definition of a file, believed or not, the line that its comment is above: that of the module around it, or the last one with a comment.
+    Between two statements of proofs/ or of src/ there is other text, so that each of these stands alone."""
     here, found, last = believed.file_of(file), {}, None
     for number, name in sorted((numbers[0], name) for name, numbers in here.defined.items()):
         last = number if last is None or here.comment(number) or '/specs/' not in file else last
@@ -99,15 +101,17 @@ def blocks(texts):
     return list(made.values()), of
 
 
+@functools.lru_cache(None)
 def named(file, name):
     """What a definition names, as (file, name), in the order of its words."""
-    here = believed.file_of(file)
-    text = ' '.join(here.lines[number] for number in here.numbers(name))
-    for word in sorted(here.words(name), key=lambda word: (text.find(word), word)):
+    here, found = believed.file_of(file), []
+    said = ' '.join(here.lines[number] for number in here.numbers(name))
+    for word in sorted(here.words(name), key=lambda word: (said.find(word), word)):
         meant = here.meant(word)
         home = meant and (believed.home_of(meant[0][:-4], meant[1]) if meant[0].endswith('/src') else meant[0])
         if home:
-            yield (home, believed.file_of(home).cases.get(meant[1], meant[1]))
+            found.append((home, believed.file_of(home).cases.get(meant[1], meant[1])))
+    return found
 
 
 def below(block, of):
@@ -132,6 +136,7 @@ def top_down(chosen, under):
     return list(told)
 
 
+@functools.lru_cache(None)
 def heads():
     """The heads of the rules and those that follow, in order: the marks of each, and its title."""
     with open(RULES, encoding='utf-8') as rules:
@@ -139,6 +144,7 @@ def heads():
     return found + [('##', title) for title in AFTER]
 
 
+@functools.lru_cache(None)
 def head_of(file):
     """The head that a file's definitions belong to."""
     if not file.split('/')[1] == 'specs':
@@ -193,7 +199,7 @@ def purpose(file):
 
 
 def shown(block, before, seen):
-    """A block as lines of the page: its file, where another one came before it; what a file of definitions is for, where it comes first; its comment and code."""
+    """A block as lines of the page: its file, where another came before it; what a file of definitions is for, where it comes first; its comment and code."""
     file = [] if before == block.file else ['<sub>[%s](../crates/%s)</sub>' % (block.file, block.file), '']
     if '/specs/' in block.file and block.file not in seen:
         file += ['> ' + line for line in prose(purpose(block.file))[:-1]] + ['']
@@ -201,8 +207,8 @@ def shown(block, before, seen):
 
 
 def with_shapes(ordered, of):
-    """The blocks of each head with the structs and enums that they name, each after the first definition that names it. One that no definition of its own crate
-    names comes with the struct or enum that has it."""
+    """The blocks of each head with the structs and enums that they name, each after the first definition that names it. One that no definition of its own
+    crate names comes with the struct or enum that has it."""
     own = {shape for _, chosen in ordered for block in chosen for shape in below(block, of) if crate_of(shape) == crate_of(block)}
     told = set()
 
@@ -221,7 +227,7 @@ def crate_of(block):
 
 
 def chapters():
-    """Each head with its blocks in reading order. Statements stand in the higher crates, so that these come first; what names nothing else there comes last."""
+    """Each head with its blocks in reading order. Statements stand in the higher crates, so these come first; what names nothing else there comes last."""
     definitions, of = blocks(believed.definitions())
     _, of_shapes = blocks(believed.shapes())
     crates, under, ordered = believed.order(), {block: below(block, of) for block in definitions}, []
