@@ -14,10 +14,11 @@ import re
 import sys
 import textwrap
 
-from tests import believed
+from tests.help import believed
+from tools import TOP
 
-PAGE = os.path.join(believed.TOP, 'docs', 'SPEC.md')
-RULES = os.path.join(believed.TOP, 'docs', 'RULES.md')
+PAGE = os.path.join(TOP, 'docs', 'SPEC.md')
+RULES = os.path.join(TOP, 'docs', 'RULES.md')
 MOST = 159
 
 # The heads that follow those of the rules, and what stands under each.
@@ -151,7 +152,7 @@ def head_of(file):
         return 'The contracts' if file.endswith('.rt') else 'The theorems'
     first = ' '.join(opening(file))
     title = re.search(r'RULES, "([^"]+)"', first)
-    if title is None and not first.startswith('-- Demand'):
+    if title is None and not re.match(r'-- (Demand|The demands)', first):
         sys.exit('crates/%s: its first comment names no head of docs/RULES.md' % file)
     title = title.group(1) if title else 'The demands'
     if title not in [head for _, head in heads()]:
