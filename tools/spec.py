@@ -104,10 +104,11 @@ def blocks(texts):
 
 @functools.lru_cache(None)
 def named(file, name):
-    """What a definition names, as (file, name), in the order of its words."""
+    """What a definition names, as (file, name), in the order of its words. What it calls its own parts may be called so elsewhere, and names nothing."""
     here, found = believed.file_of(file), []
-    said = ' '.join(here.lines[number] for number in here.numbers(name))
-    for word in sorted(here.words(name), key=lambda word: (said.find(word), word)):
+    said = '\n'.join(here.lines[number] for number in here.numbers(name))
+    own = set(re.findall(r'^\s+(?:pub )?(\S+) :', said, re.M)) - set(here.defined) - set(here.brought)
+    for word in sorted(here.words(name) - own, key=lambda word: (said.find(word), word)):
         meant = here.meant(word)
         home = meant and (believed.home_of(meant[0][:-4], meant[1]) if meant[0].endswith('/src') else meant[0])
         if home:
