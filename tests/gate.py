@@ -2,6 +2,8 @@
 too. And the tree as the gate sees it: every suite is run, no file goes looking for its neighbours, and no edit that must fail is passed over in part.
 It ends in 'N passed, M failed'.
 """
+import contextlib
+import io
 import os
 import re
 import shutil
@@ -234,6 +236,16 @@ def sample_is_interrupted(folder):
             yield 'what it started runs on'
 
 
+def comparisons_can_fail(_):
+    """A comparison passes where every question has its answer, and fails where none was asked, one is answered otherwise or not at all, or one too many."""
+    cases = [([1, 2], [1, 2], True), ([], [], False), ([1, 2], [1, 3], False), ([1, 2], [1], False), ([1, 2], [1, 2, 3], False)]
+    for wanted, got, is_same in cases:
+        with contextlib.redirect_stdout(io.StringIO()):
+            result = report.compared('made up', wanted, wanted, got, '{} {} {}'.format)
+        if result is not is_same:
+            yield '%s for %s: %s' % (got, wanted, result)
+
+
 # ---- the tree
 
 def tracked(*endings):
@@ -282,7 +294,7 @@ def edits_are_whole():
             yield '%s: its lines are %s' % (name, kinds)
 
 
-GATE = [green, skipped, red, rt_is_counted, what_is_shared_is_built, beside_each_other, interrupted, sample_is_interrupted]
+GATE = [green, skipped, red, rt_is_counted, what_is_shared_is_built, beside_each_other, interrupted, sample_is_interrupted, comparisons_can_fail]
 TREE = [every_suite_is_run, nobody_looks_for_neighbours, nothing_reaches_into_tests, edits_are_whole]
 
 

@@ -44,9 +44,11 @@ def ended(results):
 
 
 def compared(name, asked, wanted, got, told, same=operator.eq, unit='questions'):
-    """Is each question answered as wanted, and nothing more answered? The first few that are not are shown in the words told(question, want, have); a
-    question without an answer has None."""
+    """Are there questions, is each answered as wanted, and nothing more answered? The first few that are not are shown in the words of
+    told(question, want, have); a question without an answer has None."""
     got, wrong = iter(got), 0
+    if len(asked) != len(wanted):
+        raise ValueError('%s: %d questions and %d wanted answers' % (name, len(asked), len(wanted)))
     for question, want in zip(asked, wanted):
         have = next(got, None)
         if not same(want, have):
@@ -55,7 +57,7 @@ def compared(name, asked, wanted, got, told, same=operator.eq, unit='questions')
                 print('%s: %s' % (name, told(question, want, have)))
     more = sum(1 for _ in got)
     print('%s: %d %s, %d answered otherwise%s' % (name, len(asked), unit, wrong, ', and %d answers to no question' % more if more else ''), flush=True)
-    return not wrong and not more
+    return len(asked) > 0 and not wrong and not more
 
 
 def answers(program, octets):
