@@ -162,10 +162,10 @@ def beside_each_other(folder):
     yield from Tree(mark('tree'), suites).faults(['nothing was skipped', '5 passed, 0 failed'], 0)
 
 
-# A suite that starts a process of its own, tells its number, and never ends.
+# A suite that starts a process of its own, which does not heed Ctrl-C, tells its number, and never ends.
 ENDLESS = '''
 import subprocess, time
-child = subprocess.Popen(["sleep", "1000"])
+child = subprocess.Popen(["sh", "-c", "trap '' INT; exec sleep 1000"])
 print("child %d" % child.pid, flush=True)
 child.wait()
 '''

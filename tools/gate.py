@@ -106,13 +106,14 @@ class Run:
         return os.pread(self.said.fileno(), os.fstat(self.said.fileno()).st_size - start, start)
 
     def end(self):
-        """Ends it: by what Ctrl-C sends, so that it can remove its scratch files, and where that is not enough, without asking."""
-        if not self.has_ended():
-            os.killpg(self.process.pid, signal.SIGINT)
-            try:
-                self.process.wait(SECONDS_TO_END)
-            except subprocess.TimeoutExpired:
-                pass
+        """Ends it, if it runs: by what Ctrl-C sends, so that it can remove its scratch files, and then without asking, since not all heed that."""
+        if self.has_ended():
+            return
+        os.killpg(self.process.pid, signal.SIGINT)
+        try:
+            self.process.wait(SECONDS_TO_END)
+        except subprocess.TimeoutExpired:
+            pass
         try:
             os.killpg(self.process.pid, signal.SIGKILL)
         except ProcessLookupError:
