@@ -82,7 +82,7 @@ def are_printed():
     numbers = archive.program('skeptolyr', 'examples/numbers.c')
     two = os.path.join(SAMPLES, 'two-fields.grib2')
     wanted = [
-        ((two, '0'), (0, '0 291\n1 missing\n2 2748\n3 missing\n', '')), ((two, '1'), (0, '0 0.5\n1 missing\n2 0.7\n3 missing\n', '')),
+        ((two, '0'), (0, '0 291.2\n1 missing\n2 274.8\n3 missing\n', '')), ((two, '1'), (0, '0 0.5\n1 missing\n2 0.7\n3 missing\n', '')),
         ((two, '2'), (1, '', manual.refused(8, 0) + '\n')), ((os.path.join(SAMPLES, 'accident.grib2'), '0'), (1, '', manual.refused(7, 0) + '\n'))]
     faults = ['%s: %s' % (words[1], run(*numbers, *words)) for words, want in wanted if run(*numbers, *words) != want]
     faults += ['%s: no usage' % (words,) for words in ((two,), (two, 'first'), ('no such file', '0'), (SAMPLES, '0')) if run(*numbers, *words)[:2] != (2, '')]

@@ -104,12 +104,12 @@ def spliced(file, place, octets):
 
 
 def two_fields():
-    """Document 01's 276-octet file: 2 x 2 points, a bitmap and then 254, 12-bit values, a temperature and a sum of rain."""
+    """Document 01's 276-octet file: 2 x 2 points, a bitmap and then 254, 12-bit values, a temperature of 291.2 and 274.8 K and a sum of rain."""
     zero = bytes(4)
     return message(
         section1(time(2017, 5, 15, 12, 0, 0)),
         section3(2, 2, (36000000, 135000000), (35000000, 136000000), 1000000, 1000000),
-        instant(0, 0, 103, (0, 10), 1, 1), section5(2, zero, 0, 0, 12), section6(0, b'\xa0'), section7([291, 2748], 12),
+        instant(0, 0, 103, (0, 10), 1, 1), section5(2, zero, 0, 1, 12), section6(0, b'\xa0'), section7([2912, 2748], 12),
         interval(time(2017, 5, 15, 13, 0, 0), 1, 1, 1, 1, 8, 1, None, 1, 0), section5(2, zero, 0, 1, 12), section6(254), section7([5, 7], 12))
 
 

@@ -39,12 +39,12 @@ one-counted : check oneField ≡ Checked.Counts 1 1
 unfolding oneField numberAt run runFor sectionAt startsAfter bitmapAfter headerAt message
 one-counted = refl
 
--- The first field is 291, missing, 2748, missing, and the second 0.5, missing, 0.7, missing.
+-- The first field is 291.2, missing, 274.8, missing, and the second 0.5, missing, 0.7, missing.
 abbrev missing : Float
 missing = fin false 0 (pos 0)
 
 abbrev firstField : List Float
-firstField = ofBits binary64 0x4072_3000_0000_0000 ∷ missing ∷ ofBits binary64 0x40a5_7800_0000_0000 ∷ missing ∷ []
+firstField = ofBits binary64 0x4072_3333_3333_3333 ∷ missing ∷ ofBits binary64 0x4071_2ccc_cccc_cccd ∷ missing ∷ []
 
 abbrev secondField : List Float
 secondField = ofBits binary64 0x3fe0_0000_0000_0000 ∷ missing ∷ ofBits binary64 0x3fe6_6666_6666_6666 ∷ missing ∷ []
@@ -63,14 +63,14 @@ firstBits values = toBits binary64 (getD values 0 missing)
 
 fields-differ : firstField ≡ secondField → ⊥
 unfolding ofBits toBits
-fields-differ same = let bits : _≡_ {A = ℕ} 0x4072_3000_0000_0000 0x3fe0_0000_0000_0000 = ap firstBits same in omega arith
+fields-differ same = let bits : _≡_ {A = ℕ} 0x4072_3333_3333_3333 0x3fe0_0000_0000_0000 = ap firstBits same in omega arith
 
 abbrev zeros : List Float
 zeros = missing ∷ missing ∷ missing ∷ missing ∷ []
 
 field-is-written : firstField ≡ zeros → ⊥
 unfolding ofBits toBits
-field-is-written same = let bits : _≡_ {A = ℕ} 0x4072_3000_0000_0000 0 = ap firstBits same in omega arith
+field-is-written same = let bits : _≡_ {A = ℕ} 0x4072_3333_3333_3333 0 = ap firstBits same in omega arith
 
 -- What a decoder that meets the contract leaves of runs of zeros.
 abbrev unmarked : List ℕ
