@@ -1,0 +1,2 @@
+-- The proof that the limits lie where the table says.
+pub mod Limits

@@ -1,0 +1,1 @@
+// Theorems alone: see specs/ for the limits of the sections, on either side.
