@@ -2,11 +2,12 @@
 use Prim.Native.Nat.{ℕ}
 use mathlib.Core.Bool.{true, false}
 use mathlib.Core.Path.{_≡_}
-use mathlib.Core.List.{[], _∷_, map}
+use mathlib.Core.List.{List, [], _∷_, map}
 use Rattle.octets.specs.declared.Signed.{Signed}
 use Rattle.octets.specs.Places.{at}
 use Rattle.calendar.specs.declared.Time.{Time}
 use Rattle.calendar.specs.declared.Unit.the-variants as Unit
+use Rattle.calendar.specs.declared.Reading.the-variants as Reading
 use Rattle.calendar.specs.declared.Later.the-variants as Later
 use Rattle.calendar.specs.Calendar.{plus, fourteenDigits, digitsOf}
 use Rattle.tiling_sections.specs.declared.Bitmap.the-variants as Bitmap
@@ -25,7 +26,7 @@ use Rattle.section_4.specs.declared.Product.the-variants as Product
 use Rattle.section_4.specs.declared.Defined.{Defined}
 use Rattle.section_4.specs.declared.Defined.the-variants as Defined
 use Rattle.section_4.specs.declared.Moment.the-variants as Moment
-use Rattle.section_4.specs.Product.{isProduct, later, productDefinitionAt}
+use Rattle.section_4.specs.Product.{isProduct, later, ending, intervalOf, definedAt, productDefinitionAt}
 use Rattle.section_5_groups.specs.declared.Grouping.{Grouping}
 use Rattle.section_5.specs.declared.Template.{Template}
 use Rattle.section_5.specs.declared.Template.the-variants as Template
@@ -80,12 +81,11 @@ fiveHoursAhead = clock 2017 5 15 17 30 45
 abbrev sampleLevel : Level
 sampleLevel = Level.At (below 2) 0x0102_0304
 
--- 16,777,216 minutes, a number that takes all four of its octets, after 1900 has begun.
-abbrev in1900 : Time
-in1900 = clock 1900 1 1 0 0 0
+abbrev fourOctetForecast : List ℕ
+fourOctetForecast = inFile (holding 19 22 0x0102_0304 instant4)
 
-abbrev in1931 : Time
-in1931 = clock 1931 11 25 20 16 0
+abbrev fourOctetLength : List ℕ
+fourOctetLength = inFile (holding 50 53 0x0102_0304 interval4)
 
 -- Section 5's sample as it is read, by either template.
 abbrev sampleRepresentation : Template → Represented
@@ -220,12 +220,11 @@ pub record SectionLimits : Type 0 where
   pub readMean :
       productDefinitionAt (inFile (holding 47 47 0 interval4)) start reference
       ≡ sampleProduct threeHoursAhead sampleLevel (Product.Interval fiveHoursAhead Kind.Mean)
-  pub longForecast :
-      productDefinitionAt (inFile (holding 18 22 0x0100_0000 instant4)) start in1900
-      ≡ sampleProduct in1931 sampleLevel Product.Instant
-  pub longInterval :
-      productDefinitionAt (inFile (holding 18 22 0 (holding 35 41 0x078b_0b19_1410_00 (holding 49 53 0x0100_0000 interval4)))) start in1900
-      ≡ sampleProduct in1900 sampleLevel (Product.Interval in1931 Kind.Sum)
+  -- All four octets of a forecast count, and all four of a length, in the unit that stands before them, whatever the time.
+  pub forecastOctets : (from : Time) → productDefinitionAt fourOctetForecast start from ≡ definedAt fourOctetForecast start (later from 0x0102_0304 1)
+  pub lengthOctets :
+      (from : Time)
+      → intervalOf fourOctetLength start from Kind.Sum ≡ ending Kind.Sum (Reading.At fiveHoursAhead) (later from 0x0102_0304 1)
   -- Section 5: length and template, R, E, D, bits; and what is read.
   pub length50 : octetsSimple 1 4 takes (21 ∷ []) refuses (20 ∷ 22 ∷ 49 ∷ [])
   pub length53 : octetsComplex 1 4 takes (49 ∷ []) refuses (21 ∷ 48 ∷ 50 ∷ [])
