@@ -46,7 +46,7 @@ class Tree:
         self.write('crates/one/must-fail/wrong.edit', '')
         self.write('tests/__init__.py', '')
         shutil.copy(os.path.join(TOP, 'tests', 'suites.py'), os.path.join(folder, 'tests', 'suites.py'))
-        listed = ['Suite(%r, %d, "suite %s", %d)' % (name, tests, name, *(more or (1,))) for name, (_, tests, *more) in suites.items()]
+        listed = ['Suite(%r, %d, "suite %s", %r)' % (name, tests, name, more == [True]) for name, (_, tests, *more) in suites.items()]
         with open(os.path.join(folder, 'tests', 'suites.py'), 'a', encoding='utf-8') as text:
             text.write('SUITES = [%s]\nSHARED = %r\n' % (', '.join(listed), list(shared)))
         for name, (source, *_) in suites.items():
@@ -128,38 +128,40 @@ def what_is_shared_is_built(folder):
     yield from Tree(unset, {'one': WELL}, setup='exit 2').faults(['skipped: every test, because tools/setup failed', '0 passed, 1 failed'], 1)
 
 
-# A suite that waits for the other to start. Alone, it waits in vain and fails.
+# A suite that waits for another to start. Alone, it waits in vain and fails.
 MEETS = '''
 import os, time
 open(%r, "w").close()
 deadline = time.monotonic() + 5
 while not os.path.exists(%r) and time.monotonic() < deadline:
     time.sleep(0.01)
-met = os.path.exists(%r)
-open(%r, "w").close()
-print("1 passed, 0 failed" if met else "0 passed, 1 failed")
+print("1 passed, 0 failed" if os.path.exists(%r) else "0 passed, 1 failed")
 '''
-# A suite that fails where another runs when it starts, or starts while it runs.
+# A module that fails where another of its kind runs at the same time.
 ALONE = '''
-import glob, time
-def running():
-    return len(glob.glob(%r)) - len(glob.glob(%r))
-before = running()
-time.sleep(0.2)
-print("0 passed, 1 failed" if before or running() else "1 passed, 0 failed")
+import os, sys, time
+os.mkdir(%r)
+time.sleep(0.1)
+os.rmdir(%r)
 '''
 
 
 def beside_each_other(folder):
-    """Suites that keep one processor busy run two at a time, and one that keeps two busy runs alone."""
+    """Suites run two at a time, the one that is to start first from the first on, and are shown in their order; what they share is built one by one."""
     def mark(name):
         return os.path.join(folder, name)
 
     def meets(one, other):
-        return MEETS % (mark(one + '.start'), mark(other + '.start'), mark(other + '.start'), mark(one + '.end')), 1
+        return MEETS % (mark(one), mark(other), mark(other))
 
-    suites = {'one': meets('one', 'other'), 'wide': (ALONE % (mark('*.start'), mark('*.end')), 1, 2), 'other': meets('other', 'one')}
-    yield from Tree(mark('tree'), suites).faults(['nothing was skipped', '5 passed, 0 failed'], 0)
+    suites = {'one': (meets('one', 'last'), 1), 'two': (meets('two', 'last'), 1), 'last': (meets('last', 'two'), 1, True)}
+    tree = Tree(mark('tree'), suites, shared=[('tests.built_alone',)] * 2)
+    tree.write('tests/built_alone.py', ALONE % (mark('built'), mark('built')))
+    out, said, status = tree.ended()
+    if out.split('\n')[-3:-1] != ['nothing was skipped', '5 passed, 0 failed'] or status:
+        yield 'it ends with %d and prints %r' % (status, out + said)
+    if re.findall(r'^== suite (\w+)$', out, re.M) != list(suites):
+        yield 'they are shown as %s' % re.findall(r'^== suite (\w+)$', out, re.M)
 
 
 # A suite that starts a process of its own, which does not heed Ctrl-C, tells its number, and never ends.
@@ -277,11 +279,23 @@ def nobody_looks_for_neighbours():
         yield from ('%s:%d' % (name, number) for number, line in enumerate(lines_of(name), 1) if word in line)
 
 
+def named_by(name):
+    """The files of tools/ that one of them names, or imports."""
+    text = '\n'.join(lines_of(name))
+    words = re.findall(r'\btools[./](\w+)', text) + [word for line in re.findall(r'^from tools import (.*)$', text, re.M) for word in line.split(', ')]
+    return {file for word in words for file in ('tools/' + word, 'tools/%s.py' % word) if os.path.exists(os.path.join(TOP, file))}
+
+
 def nothing_reaches_into_tests():
-    """Nothing that users run needs what tests are made of: in tools/, the gate alone names a module of tests/."""
-    for name in tracked(''):
-        if name.startswith('tools/') and name not in ('tools/gate.py', 'tools/test'):
-            yield from ('%s:%d' % (name, number) for number, line in enumerate(lines_of(name), 1) if re.search(r'\btests[./]\w', line))
+    """What users run, tools/sample and tools/install and all of tools/ that these reach, needs nothing that tests are made of."""
+    reached, found = {'tools/sample', 'tools/install'}, set()
+    while reached - found:
+        found |= reached
+        reached = set().union(*map(named_by, found))
+    if 'tools/archive.py' not in found:
+        yield 'tools/sample does not reach tools/archive.py: this test sees too little'
+    for name in sorted(found):
+        yield from ('%s:%d' % (name, number) for number, line in enumerate(lines_of(name), 1) if re.search(r'\btests[./]\w', line))
 
 
 def edits_are_whole():

@@ -1,7 +1,7 @@
 """What tools/test does: `rt ci`, which proves every crate, tries every edit that must fail and runs every program, and then the suites of tests/suites.py.
 
-`rt ci` uses every processor. Of the suites, two that keep one processor busy each run beside each other. What each prints is shown whole, in the
-order of the list. The line before the last tells what was skipped, and the last is 'N passed, M failed', summed over all. A suite whose number of
+`rt ci` uses every processor. Of the suites, most of which use one, two run beside each other. What each prints is shown whole, in the order of the
+list. The line before the last tells what was skipped, and the last is 'N passed, M failed', summed over all. A suite whose number of
 tests is another than the list says has failed, and so has one that ends in no such line.
 """
 import glob
@@ -17,18 +17,18 @@ from typing import NamedTuple
 from tests.suites import SHARED, SUITES
 from tools import TOP
 
-PROCESSORS = 2
+AT_ONCE = 2
 SECONDS_BETWEEN_LOOKS = 0.05
 SECONDS_TO_END = 3
 
 
 class Task(NamedTuple):
-    """A command that is run, what it is called, how many tests it must have and where that number is told, and how many processors it keeps busy."""
+    """A command that is run, what it is called, how many tests it must have and where that number is told, and whether it is started before others."""
     what: str
     command: tuple
     tests: int
     told: str
-    processors: int = 1
+    starts_first: bool = False
 
 
 class Verdict(NamedTuple):
@@ -48,7 +48,7 @@ def tests_of_rt():
 
 def proofs():
     what = 'every crate proved, every must-fail edit refused, every program run'
-    return Task(what, ('rt', 'ci'), tests_of_rt(), 'the folders of crates/ and the files of their must-fail/ are', PROCESSORS)
+    return Task(what, ('rt', 'ci'), tests_of_rt(), 'the folders of crates/ and the files of their must-fail/ are')
 
 
 def preparations():
@@ -56,7 +56,7 @@ def preparations():
 
 
 def suites():
-    return [Task(suite.what, (sys.executable, '-m', 'tests.' + suite.name), suite.tests, 'tests/suites.py says', suite.processors) for suite in SUITES]
+    return [Task(suite.what, (sys.executable, '-m', 'tests.' + suite.name), suite.tests, 'tests/suites.py says', suite.starts_first) for suite in SUITES]
 
 
 # ---- judging
@@ -122,18 +122,16 @@ class Run:
 
 
 class Runner:
-    """Starts tasks as processors become free, and shows each in its turn."""
+    """Runs two tasks at a time, and shows each in its turn."""
 
     def __init__(self, tasks):
-        self.waiting, self.runs = list(tasks), {}
+        self.waiting, self.runs = sorted(tasks, key=lambda task: not task.starts_first), {}
 
     def start(self):
-        """Starts each waiting task for which processors are free, in their order."""
-        for task in list(self.waiting):
-            busy = sum(run.task.processors for run in self.runs.values() if not run.has_ended())
-            if busy == 0 or busy + task.processors <= PROCESSORS:
-                self.waiting.remove(task)
-                self.runs[task] = Run(task)
+        """Starts the tasks that are next, as many as may run."""
+        while self.waiting and sum(not run.has_ended() for run in self.runs.values()) < AT_ONCE:
+            task = self.waiting.pop(0)
+            self.runs[task] = Run(task)
 
     def shown(self, task):
         """Shows what a task prints, as it comes, and gives its run when it has ended and all is shown."""
@@ -156,7 +154,7 @@ class Runner:
 
 
 def all_judged(tasks, judge=judged):
-    """The verdict on each task."""
+    """The verdict on each task, in their order."""
     runner, verdicts = Runner(tasks), []
     try:
         for task in tasks:
@@ -177,7 +175,10 @@ def main():
     for number in (signal.SIGTERM, signal.SIGHUP):
         signal.signal(number, interrupted)
     try:
-        verdicts = all_judged([proofs()]) + all_judged(preparations(), of_preparation) + all_judged(suites())
+        verdicts = all_judged([proofs()])
+        for task in preparations():
+            verdicts += all_judged([task], of_preparation)
+        verdicts += all_judged(suites())
     except KeyboardInterrupt:
         print('\ntest: interrupted; all that was started has been ended, and nothing is decided', file=sys.stderr)
         return 130
