@@ -279,6 +279,15 @@ def nobody_looks_for_neighbours():
         yield from ('%s:%d' % (name, number) for number, line in enumerate(lines_of(name), 1) if word in line)
 
 
+def paths_lead_somewhere():
+    """Each file of the tree that a text or a comment names is there. NAME and other words in capitals stand for any."""
+    for name in tracked('.md', '.py', '.c', '.h', '.rs', 'Makefile'):
+        for number, line in enumerate(lines_of(name) if name not in ('tests/gate.py', 'tests/house.py') else [], 1):
+            for path in re.findall(r'(?<![\w./-])(?:tests|tools|samples|fuzz|bench|docs|examples|include)/[\w./-]*\w\.\w+', line):
+                if not os.path.exists(os.path.join(TOP, path)) and not re.search(r'/[A-Z]+\.', path):
+                    yield '%s:%d: %s' % (name, number, path)
+
+
 def named_by(name):
     """The files of tools/ that one of them names, or imports."""
     text = '\n'.join(lines_of(name))
@@ -309,7 +318,7 @@ def edits_are_whole():
 
 
 GATE = [green, skipped, red, rt_is_counted, what_is_shared_is_built, beside_each_other, interrupted, sample_is_interrupted, comparisons_can_fail]
-TREE = [every_suite_is_run, nobody_looks_for_neighbours, nothing_reaches_into_tests, edits_are_whole]
+TREE = [every_suite_is_run, nobody_looks_for_neighbours, nothing_reaches_into_tests, paths_lead_somewhere, edits_are_whole]
 
 
 def tried(test):

@@ -279,7 +279,7 @@ def promises_stand_in_specs():
 
 
 def definitions_are_read():
-    """Every line of specs/ is one that tests/believed.py reads, and names nothing of proofs/ but contracts, so that nothing is believed and not counted."""
+    """Every line of specs/ is one that tests/help/believed.py reads, and names nothing of proofs/ but contracts, so that nothing is believed and not counted."""
     for name in sources('.antt'):
         if name.split('/')[2] == 'specs':
             here = believed.file_of(name[len('crates/'):])
