@@ -1,9 +1,9 @@
 -- `question_decode::decode` meets its contract: the question is judged first, and what is judged is decoded.
-use mathlib.Core.Path.{sym, ap, _∙_}
+use mathlib.Core.Path.{_≡_, sym, ap, _∙_}
 use lib.ListN.{length}
 use Rattle.question.proofs.Laws.{judged-values}
 use Rattle.question_decode.specs.declared.Decoded.the-variants as Decoded
-use Rattle.question_decode.specs.Decoding.{outcomeBy, answerOf, valuesAfter, presenceAfter}
+use Rattle.question_decode.specs.Decoding.{outcomeBy, answerOf, valuesAfter, presenceAfter, answer, valuesLeft, presenceLeft}
 use borrow.Author.Needs.{needs}
 use Rattle.question_decode.proofs.decode.Statement.{statement}
 use Rattle.question_decode.proofs.decode.Tie as tie
@@ -42,12 +42,20 @@ returns c =
       (call .decode-judged .ensures .1 .0 ∙ ap (valuesAfter (a .start) (a .values .now)) outcome, call .decode-judged .ensures .1 .1 ∙ ap (presenceAfter (a .start) (a .presence .now)) outcome),
     )
 
-returns-2 : tie.Need-returns-2
-returns-2 c =
+-- A question that is refused has that answer, and leaves both runs as they were.
+refuses : (c : tie.After-known-told2) →
+    let a = c .before .before .before .before .before .before .before .args in
+    (Decoded.Refused (c .before .refusal .given .0 .0) ≡ answer (a .file .now) (a .k) (a .start) (length (a .values .now)) (length (a .presence .now)))
+    × ((a .values .now ≡ valuesLeft (a .file .now) (a .k) (a .start) (a .values .now) (a .presence .now))
+    × (a .presence .now ≡ presenceLeft (a .file .now) (a .k) (a .start) (a .values .now) (a .presence .now)))
+refuses c =
     let judge = c .before .before .before in
     let a = judge .before .before .before .before .args in
     let outcome = ap (outcomeBy (a .file .now)) (sym (c .before .refusal .given .1) ∙ judge .judge .ensures) in
     (ap answerOf outcome, (ap (valuesAfter (a .start) (a .values .now)) outcome, ap (presenceAfter (a .start) (a .presence .now)) outcome))
+
+returns-2 : tie.Need-returns-2
+returns-2 c = refuses c
 
 pub decode-spec : {M : Type 1} → statement M
 decode-spec =
