@@ -1,5 +1,5 @@
 /* Decode in plain C, under the same contract as skeptolyr_decode: the yardstick for its speed. Octets of a section are numbered from 1, as in
- * document 01. A walk answers 0 where there is nothing to refuse; what judges a section answers whether it is taken. */
+ * docs/RULES.md. A walk answers 0 where there is nothing to refuse; what judges a section answers whether it is taken. */
 #include "plain.h"
 
 #include <string.h>

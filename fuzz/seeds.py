@@ -1,6 +1,6 @@
 """python3 -m fuzz.seeds FOLDER: writes the small files that the fuzzer starts from, each behind the octets of a question (fuzz/question.h).
 
-They are the files of the other tests: samples, document 01's examples, a file for each error that we have met, what an earlier field decides,
+They are the files of the other tests: samples, the rules' examples, a file for each error that we have met, what an earlier field decides,
 refusals 15 and 16, fields in both templates under each indicator, and fields of some hundred points.
 """
 import os

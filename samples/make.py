@@ -1,4 +1,4 @@
-"""Writes the sample files beside this script, from document 01 alone. README.md beside it says what each shows."""
+"""Writes the sample files beside this script, from the rules alone. README.md beside it says what each shows."""
 import os
 from typing import NamedTuple, Optional
 
@@ -10,7 +10,7 @@ TOO_LONG = 268435457
 
 
 class Refusal(NamedTuple):
-    """A refusal that document 01 gives, by its number and place; the file and the field that are asked about; what is wrong there; and, where that
+    """A refusal that the rules give, by its number and place; the file and the field that are asked about; what is wrong there; and, where that
     is what is wrong, how many points the lent runs have room for."""
     number: int
     place: int
@@ -64,7 +64,7 @@ def samples():
     """Each file's name and octets."""
     two = grib.two_fields()
     return {
-        # The file of document 01's listing: one message, two fields.
+        # The file of RULES, "Listing": one message, two fields.
         'two-fields.grib2': two,
         'islands.grib2': islands.file(),
         # The accident: a transfer was cut inside the first message's second field, and the next message followed directly.

@@ -1,4 +1,4 @@
-"""Files as large as those of the Japan Meteorological Agency, in the shapes that source documents 000 to 003 print, from document 01 alone. They
+"""Files as large as those of the Japan Meteorological Agency, in the shapes that its four papers print, from docs/RULES.md alone. They
 are made where they are needed, and not kept. `times` gives a field so many times as many rows; section 3 takes 16,777,216 points at most."""
 import array
 import itertools
@@ -78,7 +78,7 @@ def complex_packing(values, lengths, reference, e, d, shortest, length_bits, ext
 # ---- files
 
 def pressure_levels(fields=92, ni=601, nj=631, present=349363, seed=1):
-    """Source document 001, pressure levels: so many fields of 12 bits over one bitmap."""
+    """The Agency's paper on bitmaps, pressure levels: so many fields of 12 bits over one bitmap."""
     rng = random.Random(seed)
     points = ni * nj
     marks = bytearray(points)
@@ -92,7 +92,7 @@ def pressure_levels(fields=92, ni=601, nj=631, present=349363, seed=1):
 
 
 def lfm(times=1, seed=2):
-    """Source document 001, surface: 1,514,461 points under a bitmap of their own, 1,396,379 of them present, in 12 bits. Points are missing at
+    """The Agency's paper on bitmaps, surface: 1,514,461 points under a bitmap of their own, 1,396,379 of them present, in 12 bits. Points are missing at
     both ends of the rows, more of them in the north."""
     rng = random.Random(seed)
     ni, nj = 1201, 1261 * times
@@ -111,7 +111,7 @@ def lfm(times=1, seed=2):
 
 
 def msm(times=1, seed=3):
-    """Source document 000, model levels: 540,037 points, all present, in groups of 32 by template 5.3. Its grid is one of longitudes here."""
+    """The Agency's paper on model levels: 540,037 points, all present, in groups of 32 by template 5.3. Its grid is one of longitudes here."""
     ni, nj = 817, 661 * times
     values = smooth(random.Random(seed), ni, nj, 16383)
     lengths = [32] * (len(values) // 32) + [len(values) % 32] * (len(values) % 32 > 0)
@@ -122,7 +122,7 @@ def msm(times=1, seed=3):
 
 
 def ocean(times=1, seed=4):
-    """Source document 002, the seas around Japan: 2,279,466 points under a bitmap of their own by template 5.3, a mean over a day. The groups
+    """The Agency's paper on the seas around Japan: 2,279,466 points under a bitmap of their own by template 5.3, a mean over a day. The groups
     have from 10 to 60 values, where the Agency's have 32."""
     rng = random.Random(seed)
     ni, nj = 1422, 1603 * times
@@ -136,7 +136,7 @@ def ocean(times=1, seed=4):
 
 
 def small_fields(fields=300, seed=5):
-    """Source document 003, the global model over Japan: so many fields of 18,271 points, all present, in 12 bits, each with its own section 3."""
+    """The Agency's paper on solar radiation, the global model: so many fields of 18,271 points, all present, in 12 bits, each with its own section 3."""
     rng = random.Random(seed)
     grid = area(121, 151, (50000000, 120000000), (20000000, 150000000))
     body = [grib.section1(grib.time(2017, 5, 15, 12, 0, 0))]

@@ -53,7 +53,7 @@ def packed_as(values, bits, reference=0.0, e=0, d=0):
 def drawn_files():
     """(what it shows, the file, the fields to draw)."""
     missing = grib.section6(0, b'\0')
-    yield "document 01's example", EXAMPLE, (0, 1)
+    yield "the rules' example", EXAMPLE, (0, 1)
     yield 'its second and third message', EXAMPLE * 3, (2, 5)
     yield 'many grids of one size', six_points_each(), range(8)
     yield '5.3 under a bitmap', grib.grouped(), (0,)

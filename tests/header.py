@@ -1,5 +1,5 @@
-"""include/skeptolyr.h, which is the manual: its table of refusals against document 01's and against the proved definition, its functions that take an
-answer apart against document 01's number, the order of its parameters and what it says of memory against the archive, and the compilers' view of it in
+"""include/skeptolyr.h, which is the manual: its table of refusals against the rules' and against the proved definition, its functions that take an
+answer apart against RULES, "What C is given", the order of its parameters and what it says of memory against the archive, and the compilers' view of it in
 C and C++. It ends in 'N passed, M failed'.
 """
 import itertools
@@ -17,7 +17,7 @@ from tools import TOP, archive, module
 
 NUMBERS = os.path.join(TOP, 'crates', 'refusals', 'specs', 'Refusals.antt')
 
-# Document 01, "Refusals by number" and "Tiling a file": the number, the name that the definition has for it, and the place.
+# RULES, "Refusals by number" and "Tiling a file": the number, the name that the definition has for it, and the place.
 TABLE = [
     (1, 'TooLong', '0'), (2, 'Empty', '0'), (3, 'Cut', 'the message'), (4, 'NotGrib2', 'the message'), (5, 'BadLength', 'the message or the section'),
     (6, 'OutOfPlace', 'the section or the closing 7777'), (7, 'NoEnd', 'the message'), (8, 'NoSuchField', '0'), (9, 'BadIdentification', 'section 1'), (10, 'BadGrid', 'section 3'),
@@ -40,7 +40,7 @@ VERDICTS = {
     17: ('The field has no point', 'ask for one below the number of points.'), 18: ('The input is longer', 'skeptolyr-draw and the functions for C read longer files.'),
     19: ('No value can be rebuilt', 'Give numbers within them.')}
 
-# Answers as document 01 gives them, and what each function of the header is to make of them.
+# Answers as the rules give them, and what each function of the header is to make of them.
 ANSWERS = [
     ('skeptolyr_is_refusal', 1 << 63 | 7 << 32 | 276, 1), ('skeptolyr_is_refusal', (1 << 63) - 1, 0), ('skeptolyr_is_refusal', 0, 0),
     ('skeptolyr_refusal_number', 1 << 63 | 16 << 32 | 4294967295, 16), ('skeptolyr_refusal_number', 1 << 63 | 1 << 32, 1),
@@ -59,12 +59,12 @@ def constant(name):
 def table_is_right():
     rows = [row[:3] for row in refusals()]
     wanted = [(constant(name), number, place) for number, name, place in TABLE]
-    return judged("the header's table of refusals is document 01's", ['%s for %s' % pair for pair in zip(rows, wanted) if pair[0] != pair[1]] + ['%d rows' % len(rows)] * (len(rows) != len(wanted)))
+    return judged("the header's table of refusals is the rules'", ['%s for %s' % pair for pair in zip(rows, wanted) if pair[0] != pair[1]] + ['%d rows' % len(rows)] * (len(rows) != len(wanted)))
 
 
 def definition_is_the_same():
     cases = [(int(number), name) for name, number in re.findall(r'^numberOf Why\.(\w+) = (\d+)$', text_of(NUMBERS), re.M)]
-    return judged("the proved definition's numbers are document 01's", [] if cases == [row[:2] for row in TABLE] else [str(cases)])
+    return judged("the proved definition's numbers are the rules'", [] if cases == [row[:2] for row in TABLE] else [str(cases)])
 
 
 # ---- what the header's own functions answer
@@ -81,7 +81,7 @@ def printed(folder, compiler, language, standard):
 
 
 def answers_are_right(folder, *language):
-    """Compiled without a warning, do the header's functions answer as document 01 says?"""
+    """Compiled without a warning, do the header's functions answer as the rules say?"""
     lines = printed(folder, *language)
     if len(lines) != 21 + len(ANSWERS):
         return judged('the header in %s' % language[2], lines)

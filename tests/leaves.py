@@ -188,7 +188,7 @@ def compare(program, name, make, count):
 
 
 def worked_examples():
-    """Each worked example of document 01 that the leaf layers answer: its words, the record, the answer."""
+    """Each worked example of the rules that the leaf layers answer: its words, the record, the answer."""
     half = 0x3fc00000
     noon = octets_of_time(2017, 5, 15, 12, 0, 0)
     return [

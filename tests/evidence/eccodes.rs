@@ -1,5 +1,5 @@
 //! Valid files as ecCodes reads them, against the independent decoder: how many fields, what each is, which points are present, and each value within
-//! what document 01 allows. Where ecCodes is known to differ, what it is known for is left out, counted by name, and counted again where it does
+//! what the rules allow. Where ecCodes is known to differ, what it is known for is left out, counted by name, and counted again where it does
 //! differ; the rest of the field is compared.
 use crate::answers::read_number;
 use crate::files::valid;
@@ -72,7 +72,7 @@ struct LeftOut {
     numbers: Vec<usize>,
     presence: bool,
     values: bool,
-    /// The distance of a value may be up to twice what document 01 allows.
+    /// The distance of a value may be up to twice what the rules allow.
     doubled: bool,
 }
 
@@ -105,7 +105,7 @@ fn left_out(described: &Description, before: Option<u8>) -> LeftOut {
     found
 }
 
-/// Is a value as near as document 01 allows, or, where that is doubled, within 2^-50 of the double that document 01 rounds to?
+/// Is a value as near as the rules allow, or, where that is doubled, within 2^-50 of the double that the rules round to?
 fn is_near(value: f64, described: &Description, x: u32, doubled: bool) -> bool {
     if reference::near_enough(value, described.r, described.e, described.d, x) {
         return true;

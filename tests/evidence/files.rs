@@ -1,4 +1,4 @@
-//! Valid files: at random over the whole range of document 01's rules, and a few small ones octet by octet.
+//! Valid files: at random over the whole range of the rules, and a few small ones octet by octet.
 
 mod bases;
 mod calendar;

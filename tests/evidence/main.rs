@@ -1,6 +1,6 @@
 //! Compares proved code with the independent decoder, case by case.
 //!
-//!   evidence told RULES                                          the independent decoder against what document 01 says in words
+//!   evidence told RULES                                          the independent decoder against what the rules say in words
 //!   evidence compare RULES SEED COUNT RECORD -- LENDER.. -- TELLER..   the whole corpus, COUNT cases of it from the seed; what is answered is recorded
 //!   evidence soak MINUTES SEED -- LENDER.. -- TELLER..           fresh seeds, one after the other, from SEED on
 //!   evidence repeat RULES SEED NUMBER FILE -- LENDER.. -- TELLER..     one case again, shown in words; its file is written to FILE

@@ -1,4 +1,4 @@
-//! Sections and messages by their octets, from document 01 alone. Every number that a section holds is a named field, with the value of an
+//! Sections and messages by their octets, from the rules alone. Every number that a section holds is a named field, with the value of an
 //! ordinary valid section as its default, so that a case says only what it changes.
 
 /// The largest X, and the largest number that 31 bits hold.
@@ -215,7 +215,7 @@ pub struct Groups {
     pub length_increment: u8,
     pub last_length: u32,
     pub length_bits: u8,
-    /// Octet 49, which document 01 calls w.
+    /// Octet 49, which the rules call w.
     pub extra_octets: u8,
 }
 

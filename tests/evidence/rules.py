@@ -1,4 +1,4 @@
-"""The files on either side of each rule, with what document 01 says of each in words, as the tests in Python have them. The independent decoder is
+"""The files on either side of each rule, with what the rules say of each in words, as the tests in Python have them. The independent decoder is
 held to them, and they are cases like others."""
 from tests import decoding, fields, tiling
 from tests.help import grib

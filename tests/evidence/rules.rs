@@ -1,4 +1,4 @@
-//! Files on either side of each rule, each with what document 01 says of it in words. They are made and judged by hand in the tests in Python, and
+//! Files on either side of each rule, each with what the rules say of it in words. They are made and judged by hand in the tests in Python, and
 //! come here as a file, so that the independent decoder is held to them too.
 use crate::answers::{read_number, Answer};
 use crate::answers_of;

@@ -1,4 +1,4 @@
-"""Makes GRIB files from document 01 alone: sections by their octets, fields, grids, messages."""
+"""Makes GRIB files from the rules alone: sections by their octets, fields, grids, messages."""
 import functools
 
 
@@ -104,7 +104,7 @@ def spliced(file, place, octets):
 
 
 def two_fields():
-    """Document 01's 276-octet file: 2 x 2 points, a bitmap and then 254, 12-bit values, a temperature of 291.2 and 274.8 K and a sum of rain."""
+    """The rules' 276-octet file: 2 x 2 points, a bitmap and then 254, 12-bit values, a temperature of 291.2 and 274.8 K and a sum of rain."""
     zero = bytes(4)
     return message(
         section1(time(2017, 5, 15, 12, 0, 0)),

@@ -1,4 +1,4 @@
-"""An independent reading of document 01, from its paragraphs: check, describe, decode and place, in Python's own whole numbers, times and
+"""An independent reading of docs/RULES.md, from its paragraphs: check, describe, decode and place, in Python's own whole numbers, times and
 doubles."""
 import datetime
 import functools

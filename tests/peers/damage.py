@@ -1,4 +1,4 @@
-"""Damaged files, from document 01 alone: one good file of three messages, and what can befall it. Each kind of damage has a name in plain words.
+"""Damaged files, from the rules alone: one good file of three messages, and what can befall it. Each kind of damage has a name in plain words.
 
 Where nothing else is said, the damage is in the middle message, so that a reader has a good message before it and another after it.
 """

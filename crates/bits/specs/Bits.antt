@@ -1,4 +1,4 @@
--- Document 01, "What the reader takes" and "Section 7": a packed run is one row of bits, counted from 0, in which every octet gives its top bit
+-- RULES, "Numbers and places" and "Section 7": a packed run is one row of bits, counted from 0, in which every octet gives its top bit
 -- first; the numbers in it lie one behind the other.
 use Prim.Native.Nat.{ℕ, zero, suc, _+_, _-_, _*_, _/_, _%_, _^_}
 use mathlib.Core.List.{List}

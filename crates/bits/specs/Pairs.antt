@@ -1,4 +1,5 @@
--- How many numbers of a run are read two at a time, each pair in one window of eight octets. It is a matter of speed alone: the numbers are the same.
+-- RULES, "Section 7": how many numbers of a run are read two at a time, each pair in one window of eight octets. It is a matter of speed alone: the
+-- numbers are the same.
 use Prim.Native.Nat.{ℕ, _+_, _-_, _*_, _/_}
 use mathlib.Core.Bool.{Bool, cond}
 use lib.Dec.{ltb, leb}

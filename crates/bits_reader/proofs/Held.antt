@@ -1,4 +1,5 @@
--- What the five proofs share: the facts of a reader, of its run, of a place, of a number and of what is read, how one is got from another, and the steps of a walk.
+-- What the five proofs share: the facts of a reader, of its run, of a place, of a number and of what is read, how one is got from another, and the steps
+-- of a walk.
 use mathlib.Core.Path.{_≡_, refl, sym, ap, subst}
 use Prim.Native.Nat.{ℕ, zero, _+_, _*_, _/_, _≤_, _<_, _^_}
 use mathlib.Core.List.{List, [], _∷_}

@@ -1,4 +1,4 @@
--- What a reader finds where it stands. Reading moves it: the reader behind what was read is of the same run, and stands so many bits on.
+-- RULES, "Section 7": what a reader finds where it stands. Reading moves it: the reader behind what was read is of the same run, and stands so many bits on.
 use Prim.Native.Nat.{ℕ, _+_, _*_}
 use mathlib.Core.Path.{_≡_}
 use mathlib.Core.List.{List}

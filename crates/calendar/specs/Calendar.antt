@@ -1,4 +1,4 @@
--- The Gregorian calendar as days that follow one another, and the times of document 01's section 1: years 1900 to 2399, seconds 0 to 59.
+-- RULES, "Section 1": the Gregorian calendar as days that follow one another, and the times that are taken: years 1900 to 2399, seconds 0 to 59.
 use Prim.Native.Nat.{ℕ, zero, suc, _+_, _*_, _/_, _%_, _≤_}
 use mathlib.Core.Bool.{Bool, not, _&&_, _||_, cond}
 use mathlib.Core.List.{List, [], _∷_, _++_}
@@ -51,12 +51,13 @@ atSecond d s = record { date = daysAfter (s / 86400) d; hour = s / 3600 % 24; mi
 abbrev pub secondsAfter : ℕ → Time → Time
 secondsAfter n t = atSecond (t .date) (secondOfDay t + n)
 
+-- How many seconds a unit has.
 abbrev pub secondsIn : declaredUnit.Unit → ℕ
 secondsIn Unit.Minute = 60
 secondsIn Unit.Hour = 3600
 secondsIn Unit.Day = 86400
 
--- Document 01, "Section 4": a sum that leads past the last year that is taken is no time.
+-- RULES, "Section 4": a sum that leads past the last year that is taken is no time.
 abbrev pub until2399 : Time → Later
 until2399 t = cond (leb (t .date .year) 2399) (Later.At t) Later.Passes2399
 
@@ -64,7 +65,7 @@ until2399 t = cond (leb (t .date .year) 2399) (Later.At t) Later.Passes2399
 abbrev pub plus : Time → ℕ → declaredUnit.Unit → Later
 plus t count unit = until2399 (secondsAfter (count * secondsIn unit) t)
 
--- Document 01, "Section 1": which times are taken, as a test and as what it tells. There is no leap second.
+-- RULES, "Section 1": which times are taken, as a test and as what it tells. There is no leap second.
 abbrev pub isDate : Date → Bool
 isDate d = leb 1900 (d .year) && leb (d .year) 2399 && leb 1 (d .month) && leb (d .month) 12 && leb 1 (d .day) && leb (d .day) (monthLength (d .year) (d .month))
 

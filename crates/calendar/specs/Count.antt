@@ -1,4 +1,4 @@
--- How the code counts the days before a date, from the year 0 on, as if the calendar had held since then. Nothing here is believed:
+-- RULES, "Section 1": how the code counts the days before a date, from the year 0 on, as if the calendar had held since then. Nothing here is believed:
 -- the proofs join it to the days that follow one another.
 use Prim.Native.Nat.{ℕ, zero, suc, _+_, _-_, _≤_, _<_}
 use mathlib.Core.Bool.{cond}

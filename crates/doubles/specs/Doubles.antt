@@ -1,4 +1,4 @@
--- Document 01, "From X to a double": the double as IEEE 754's operations give it, and the question that rebuilds one.
+-- RULES, "From X to a double": the double as IEEE 754's operations give it, and the question that rebuilds one.
 use Prim.Native.Nat.{ℕ, _^_, _≤_}
 use mathlib.Core.Bool.{Bool, true, false, _&&_, cond}
 use lib.Dec.{T, leb}

@@ -1,4 +1,5 @@
--- A machine that goes on or stops at each step, run until it stops. A measure of what is left, which falls with each step, bounds the steps.
+-- RULES, "Tiling a file", goes step by step: a machine that goes on or stops at each step, run until it stops. A measure of what is left, which falls
+-- with each step, bounds the steps.
 use Prim.Native.Nat.{ℕ, zero, suc}
 use mathlib.Core.Path.{_≡_}
 

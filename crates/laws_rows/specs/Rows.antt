@@ -1,4 +1,5 @@
--- Rows of elements that are known by their numbers, and runs that are lent whole to have a stretch of them filled. Over the elements' type.
+-- RULES, "From X to a double": rows of elements that are known by their numbers, and runs that are lent whole to have a stretch of them filled. Over the
+-- elements' type.
 use Prim.Native.Nat.{ℕ, zero, suc, _+_}
 use mathlib.Core.List.{List, [], _∷_, _++_}
 use lib.ListN.{length, take, drop, set}

@@ -1,4 +1,4 @@
-// Prints the listing of the file on standard input (document 01, "Listing"). What is printed of what was read is decided, and proved, in listing_file.
+// Prints the listing of the file on standard input (RULES, "Listing"). What is printed of what was read is decided, and proved, in listing_file.
 use libc::STDIN_FILENO;
 
 fn main() {

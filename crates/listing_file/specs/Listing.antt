@@ -1,4 +1,4 @@
--- Document 01, "Listing": the lines for a file on standard input.
+-- RULES, "Listing": the lines for a file on standard input.
 use Prim.Native.Nat.{ℕ, zero, suc}
 use mathlib.Core.Path.{_≡_}
 use mathlib.Core.Bool.{cond}

@@ -1,4 +1,4 @@
-// The listing of an input as text in a lent run of octets (document 01, "Listing"): the count of its fields and one line for each, or the line
+// The listing of an input as text in a lent run of octets (RULES, "Listing"): the count of its fields and one line for each, or the line
 // of its refusal.
 ghost use Prim.Native.Nat.{_+_, _*_, _≤_};
 ghost use lib.ListN.{length};

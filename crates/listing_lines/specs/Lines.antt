@@ -1,4 +1,4 @@
--- Document 01, "Listing": what a line says of a refusal, or of a field behind its number.
+-- RULES, "Listing": what a line says of a refusal, or of a field behind its number.
 use Prim.Native.Nat.{ℕ}
 use mathlib.Core.List.{List, _++_}
 use Rattle.refusals.specs.declared.Refusal.{Refusal}

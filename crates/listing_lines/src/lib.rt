@@ -1,4 +1,4 @@
-// What a line of the listing says: a refusal, or what a field is (document 01, "Listing").
+// What a line of the listing says: a refusal, or what a field is (RULES, "Listing").
 ghost use mathlib.Core.Path.{_≡_};
 ghost use Prim.Native.Nat.{_+_, _≤_};
 ghost use lib.ListN.{length};

@@ -1,4 +1,4 @@
--- Document 01, "What the reader takes": the number that octets hold, the first counting most, and the sign and size that such a number holds.
+-- RULES, "Numbers and places": the number that octets hold, the first counting most, and the sign and size that such a number holds.
 use Prim.Native.Nat.{ℕ, zero, suc, _+_, _-_, _*_, _%_, _^_}
 use mathlib.Core.Bool.{Bool, true, false}
 use mathlib.Core.List.{List}

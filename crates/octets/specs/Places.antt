@@ -1,4 +1,4 @@
--- Document 01, "What the reader takes": three ways to count. An octet of a section has a number from 1 on; a bit of a run and a place in the
+-- RULES, "Numbers and places": three ways to count. An octet of a section has a number from 1 on; a bit of a run and a place in the
 -- file are counted from 0.
 -- In the code each kind of place has a type of its own; here each is the number that it holds.
 use Prim.Native.Nat.{ℕ, _+_, _-_, _*_, _/_}

@@ -1,4 +1,4 @@
--- Document 01, "What the reader takes" and "Refusals by number": the question describe. The sections are judged in the order of their refusals, 9 to 14,
+-- RULES, "A description" and "Refusals by number": the question describe. The sections are judged in the order of their refusals, 9 to 14,
 -- and the first fault is the answer.
 use Prim.Native.Nat.{ℕ}
 use mathlib.Core.Bool.{cond}

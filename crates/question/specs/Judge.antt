@@ -1,4 +1,4 @@
--- Document 01, "Refusals by number": what comes behind the refusals of describe, by what is asked of the field.
+-- RULES, "Refusals by number": what comes behind the refusals of describe, by what is asked of the field.
 use Prim.Native.Nat.{ℕ, _+_}
 use mathlib.Core.Path.{_≡_}
 use mathlib.Core.Bool.{Bool, _&&_, cond}
@@ -42,6 +42,7 @@ valuesAsked file start values presence d =
 abbrev pub pointAsked : ℕ → Description → Described
 pointAsked n d = cond (ltb n (pointsOf (d .grid))) (Described.As d) (refusedAt Why.NoSuchPoint 0)
 
+-- What is judged beside the description, by what is asked.
 abbrev pub asked : List ℕ → Asks → Description → Described
 asked file (Asks.Point n) d = pointAsked n d
 asked file (Asks.Values start values presence) d = valuesAsked file start values presence d

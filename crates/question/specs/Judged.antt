@@ -1,4 +1,4 @@
--- Document 01, "What the reader takes": what the description of a field holds. Each part is what a section in force says, and each section is taken.
+-- RULES, "A description": what the description of a field holds. Each part is what a section in force says, and each section is taken.
 use mathlib.Core.Path.{_≡_}
 use mathlib.Core.List.{List}
 use Prim.Native.Nat.{ℕ}

@@ -1,5 +1,5 @@
--- The numbers of document 01 for each case of a description: what the octets of a file hold, for a level or none, an instant or an interval, a
--- data template, and a bitmap indicator.
+-- RULES, "A description": the numbers of each case of a description. They are what the octets of a file hold, for a level or none, an instant or an
+-- interval, a data template, and a bitmap indicator.
 use Prim.Native.Nat.{ℕ}
 use mathlib.Core.Bool.{cond}
 use mathlib.Core.List.{List, [], _∷_, _++_, map}
@@ -65,7 +65,7 @@ representationNumbers r =
 abbrev pub startNumbers : Starts → List ℕ
 startNumbers s = map (sectionStart s) (1 ∷ 3 ∷ 4 ∷ 5 ∷ 6 ∷ 7 ∷ [])
 
--- A whole description, as 56 numbers in the order in which document 01 names them.
+-- A whole description, as 56 numbers in the order in which RULES, "A description", names them.
 abbrev pub numbersOf : Description → List ℕ
 numbersOf d =
     (d .discipline ∷ d .identification .status ∷ [])

@@ -1,4 +1,4 @@
--- Document 01, "From X to a double": the question decode. Integers and presence come first, and the doubles are made from them.
+-- RULES, "From X to a double": the question decode. Integers and presence come first, and the doubles are made from them.
 use Prim.Native.Nat.{ℕ}
 use mathlib.Core.Path.{_≡_}
 use mathlib.Core.Bool.{true}

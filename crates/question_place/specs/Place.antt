@@ -1,4 +1,4 @@
--- Document 01, "Section 3": the question place. A point that the field has is placed by the field's grid.
+-- RULES, "Section 3": the question place. A point that the field has is placed by the field's grid.
 use Prim.Native.Nat.{ℕ}
 use mathlib.Core.List.{List}
 use Rattle.section_3_geometry.specs.Positions.{positionOf}

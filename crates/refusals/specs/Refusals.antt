@@ -1,4 +1,4 @@
--- Document 01, "Refusals by number": the number that each refusal has, what C is given for it, and the order in which refusals are tried.
+-- RULES, "Refusals by number": the number that each refusal has, what C is given for it, and the order in which refusals are tried.
 use Prim.Native.Nat.{ℕ, suc, _+_, _*_, _^_}
 use mathlib.Core.List.{List, [], _∷_}
 use mathlib.Core.Bool.{cond, _&&_}

@@ -4,7 +4,7 @@ ghost use Prim.Native.Nat.{_<_, _^_};
 ghost use Rattle.refusals.specs.Refusals.{numberOf, codeOf};
 use octets::FilePlace;
 
-// Why a question is refused, in the order of document 01's table.
+// Why a question is refused, in the order of the table in RULES, "Refusals by number".
 pub enum Why {
     // The file is over 268,435,456 octets.
     TooLong,
@@ -52,7 +52,7 @@ pub struct Refusal {
     pub place: FilePlace,
 }
 
-// The number that document 01's table gives a refusal.
+// The number that the table in RULES, "Refusals by number", gives a refusal.
 pub fn number_of(why: Why) -> u64
     ensures { λ r. ⌜ r ≡ numberOf why ⌝ }
 {

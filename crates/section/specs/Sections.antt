@@ -1,4 +1,4 @@
--- Document 01, "Tiling a file" and "What the reader takes": a section tells its own length and number, and its octets are counted from 1.
+-- RULES, "Tiling a file" and "Numbers and places": a section tells its own length and number, and its octets are counted from 1.
 use Prim.Native.Nat.{ℕ, _+_, _-_, _≤_}
 use mathlib.Core.List.{List}
 use lib.ListN.{length, take, drop}

@@ -1,4 +1,4 @@
--- Document 01, "Section 1": who wrote a message, whether it is a trial, and the time that its forecasts start from.
+-- RULES, "Section 1": who wrote a message, whether it is a trial, and the time that its forecasts start from.
 use Prim.Native.Nat.{ℕ}
 use mathlib.Core.Bool.{Bool, _&&_, cond}
 use mathlib.Core.List.{List}
@@ -21,5 +21,6 @@ abbrev pub timed : List ℕ → ℕ → Reading → Identified
 timed file s (Reading.At t) = Identified.As (record { status = octet file s 20; reference = t })
 timed file s Reading.NoTime = Identified.NotTaken
 
+-- What the section 1 at s says, or that it is not taken.
 unfoldable pub identificationAt : List ℕ → ℕ → Identified
 identificationAt file s = cond (isIdentification file s) (timed file s (timeAt file (placeOf s 13))) Identified.NotTaken

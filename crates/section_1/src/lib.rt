@@ -1,4 +1,4 @@
-// Section 1: the status of a message, and the time that its forecasts start from (document 01, "Section 1").
+// Section 1: the status of a message, and the time that its forecasts start from (RULES, "Section 1").
 ghost use mathlib.Core.Path.{_≡_};
 ghost use Rattle.section.specs.Sections.{Lies};
 ghost use Rattle.section_1.specs.Identification.{isIdentification, identificationAt};

@@ -1,4 +1,4 @@
--- Document 01, "Section 3": the octets of a section with a grid of template 3.0.
+-- RULES, "Section 3": the octets of a section with a grid of template 3.0.
 use Prim.Native.Nat.{ℕ}
 use mathlib.Core.Bool.{Bool, not, _&&_, cond}
 use mathlib.Core.Path.{_≡_}
@@ -62,5 +62,6 @@ abbrev pub ofRadius : List ℕ → ℕ → Radius → Gridded
 ofRadius file s (Radius.Metres radius) = cond (isTaken (numbersAt file s radius) (held file s 7 10)) (Gridded.On (numbersAt file s radius)) Gridded.NotTaken
 ofRadius file s Radius.Unknown = Gridded.NotTaken
 
+-- The grid of the section 3 at s, or that it is not taken.
 unfoldable pub gridAt : List ℕ → ℕ → Gridded
 gridAt file s = cond (isRegular file s && isScanned file s) (ofRadius file s (radiusAt file s)) Gridded.NotTaken

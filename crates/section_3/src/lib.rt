@@ -1,4 +1,4 @@
-// Section 3: the grid of template 3.0, as the section's octets hold it (document 01, "Section 3").
+// Section 3: the grid of template 3.0, as the section's octets hold it (RULES, "Section 3").
 ghost use mathlib.Core.Path.{_≡_};
 ghost use Rattle.section.specs.Sections.{Lies};
 ghost use Rattle.section_3.specs.Section3.{LiesWhole, isRegular, isScanned, radiusAt, numbersAt, gridAt};

@@ -1,4 +1,4 @@
--- Document 01, "Section 3": which numbers make a grid. Its points lie in rows from north to south, and in each row from west to east.
+-- RULES, "Section 3": which numbers make a grid. Its points lie in rows from north to south, and in each row from west to east.
 use Prim.Native.Nat.{ℕ, _+_, _-_, _*_}
 use mathlib.Core.Bool.{Bool, _&&_, cond}
 use lib.Dec.{eqb, ltb, leb}

@@ -1,4 +1,4 @@
--- Document 01, "Section 3": where point n of a grid lies. A grid's points are counted along its rows.
+-- RULES, "Section 3": where point n of a grid lies. A grid's points are counted along its rows.
 use Prim.Native.Nat.{ℕ, _+_, _-_, _*_, _/_, _%_, _≤_}
 use mathlib.Core.Bool.{cond}
 use lib.Dec.{ltb}
@@ -12,6 +12,7 @@ pub record Measured (g : Grid) : Type 0 where
   pub columns : 1 ≤ g .ni
   pub latitude : g .first .latitude .size ≤ 90000000
 
+-- A grid has Ni x Nj points.
 abbrev pub pointsOf : Grid → ℕ
 pointsOf g = g .ni * g .nj
 
@@ -34,5 +35,6 @@ latitudeOf g j = latitudeAt (southOf (g .first .latitude) + j * g .dj)
 abbrev pub longitudeOf : Grid → ℕ → ℕ
 longitudeOf g i = (g .first .longitude + i * g .di) % 360000000
 
+-- Where point n lies.
 abbrev pub positionOf : Grid → ℕ → Position
 positionOf g n = record { latitude = latitudeOf g (rowOf g n); longitude = longitudeOf g (columnOf g n) }

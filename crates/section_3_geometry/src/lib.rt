@@ -1,4 +1,4 @@
-// The numbers of a grid: which of them make one, and where its points lie (document 01, "Section 3").
+// The numbers of a grid: which of them make one, and where its points lie (RULES, "Section 3").
 ghost use mathlib.Core.Path.{_≡_};
 ghost use mathlib.Core.Bool.{true};
 ghost use Prim.Native.Nat.{_≤_, _<_, _^_};

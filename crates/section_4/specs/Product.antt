@@ -1,4 +1,4 @@
--- Document 01, "Section 4": what a field is about, and of which time.
+-- RULES, "Section 4": what a field is about, and of which time.
 use Prim.Native.Nat.{ℕ}
 use mathlib.Core.Bool.{Bool, not, _&&_, _||_, cond}
 use mathlib.Core.List.{List}
@@ -116,5 +116,6 @@ abbrev pub definedAt : List ℕ → ℕ → Moment → Defined
 definedAt file s (Moment.At valid) = definedBy file s valid (levelAt file s) (productAt file s valid)
 definedAt file s Moment.Never = Defined.NotTaken
 
+-- What the section 4 at s says, with its times counted from the reference time; or that it is not taken.
 unfoldable pub productDefinitionAt : List ℕ → ℕ → Time → Defined
 productDefinitionAt file s reference = cond (isProduct file s) (definedAt file s (later reference (held file s 19 22) (octet file s 18))) Defined.NotTaken

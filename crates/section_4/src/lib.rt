@@ -1,4 +1,4 @@
-// Section 4: what a field is about, on which level, and of which time (document 01, "Section 4").
+// Section 4: what a field is about, on which level, and of which time (RULES, "Section 4").
 ghost use mathlib.Core.Path.{_≡_};
 ghost use mathlib.Core.Bool.{true};
 ghost use Prim.Native.Nat.{_≤_};

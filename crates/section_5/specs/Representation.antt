@@ -1,4 +1,4 @@
--- Document 01, "Section 5": how the values of a field are packed.
+-- RULES, "Section 5": how the values of a field are packed.
 use Prim.Native.Nat.{ℕ}
 use mathlib.Core.Bool.{Bool, _&&_, cond}
 use mathlib.Core.List.{List}
@@ -51,6 +51,7 @@ abbrev pub representedBy : List ℕ → ℕ → TemplateReading → Represented
 representedBy file s (TemplateReading.Is template) = cond (isScaled file s) (Represented.By (representationWith file s template)) Represented.NotTaken
 representedBy file s TemplateReading.Bad = Represented.NotTaken
 
+-- What the section 5 at s says, or that it is not taken.
 unfoldable pub representationAt : List ℕ → ℕ → Represented
 representationAt file s = representedBy file s (dataTemplateAt file s)
 

@@ -1,4 +1,4 @@
-// Section 5: how the values of a field are packed (document 01, "Section 5").
+// Section 5: how the values of a field are packed (RULES, "Section 5").
 ghost use mathlib.Core.Path.{_≡_};
 ghost use Prim.Native.Nat.{_≤_};
 ghost use Rattle.section.specs.Sections.{Lies, lengthAt};

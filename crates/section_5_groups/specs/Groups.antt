@@ -1,4 +1,4 @@
--- Document 01, "Section 5": what template 5.3 says of its groups.
+-- RULES, "Section 5": what template 5.3 says of its groups.
 use Prim.Native.Nat.{ℕ}
 use mathlib.Core.Bool.{Bool, _&&_}
 use mathlib.Core.List.{List}

@@ -1,4 +1,4 @@
-// Section 5: what template 5.3 says of its groups (document 01, "Section 5").
+// Section 5: what template 5.3 says of its groups (RULES, "Section 5").
 ghost use mathlib.Core.Path.{_≡_};
 ghost use Rattle.section.specs.Sections.{Lies, lengthAt};
 ghost use Rattle.section_5_groups.specs.Groups.{groupingAt, isDifferenced, isGrouping};

@@ -1,4 +1,4 @@
--- Document 01, "Section 6": which points of a field are present.
+-- RULES, "Section 6": which points of a field are present.
 use Prim.Native.Nat.{ℕ, zero, suc, _+_}
 use mathlib.Core.Bool.{Bool, _&&_, cond}
 use mathlib.Core.List.{List}
@@ -50,6 +50,7 @@ withoutBitmap file s bitmap points n =
     (cond (eqb (octet file s 6) 255) (allOf points n)
     Marked.NotTaken)
 
+-- What the section 6 at s says of so many points, of which n are to be present; or that it is not taken.
 unfoldable pub presenceAt : List ℕ → ℕ → Bitmap → ℕ → ℕ → Marked
 presenceAt file s bitmap points n =
     cond (ltb (lengthAt file s) 6) Marked.NotTaken

@@ -1,4 +1,4 @@
-// Section 6: which points of a field are present (document 01, "Section 6").
+// Section 6: which points of a field are present (RULES, "Section 6").
 ghost use mathlib.Core.Path.{_≡_};
 ghost use Prim.Native.Nat.{_*_, _^_, _≤_, _<_};
 ghost use lib.ListN.{length};

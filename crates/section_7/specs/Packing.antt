@@ -1,4 +1,4 @@
--- Document 01, "Section 7": whether the groups of a section add up, how long the section is, and what it holds.
+-- RULES, "Section 7": whether the groups of a section add up, how long the section is, and what it holds.
 use Prim.Native.Nat.{ℕ, zero, suc, _+_, _-_, _*_, _≤_}
 use mathlib.Core.Bool.{Bool, true, false, _&&_, cond}
 use mathlib.Core.List.{List}
@@ -45,6 +45,7 @@ abbrev pub endsWith : ℕ → Layout → Plan → Bool
 endsWith length at (Plan.Bits bits) = eqb length (at .packed .0 - 1 + octetsOf bits)
 endsWith length at Plan.Bad = false
 
+-- The groups of the section at s add up, and the section ends with them.
 abbrev pub isGrouped : List ℕ → ℕ → ℕ → ℕ → Grouping → Bool
 isGrouped file s n bits g = endsWith (lengthAt file s) (layoutOf bits g) (planOf (octetsIn file s) (layoutOf bits g) g n)
 

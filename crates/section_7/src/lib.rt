@@ -1,4 +1,4 @@
-// Section 7: what it holds. These are the packed numbers of a field and nothing else, and their groups add up (document 01, "Section 7").
+// Section 7: what it holds. These are the packed numbers of a field and nothing else, and their groups add up (RULES, "Section 7").
 ghost use mathlib.Core.Path.{_≡_};
 ghost use Rattle.section.specs.Sections.{Lies};
 ghost use Rattle.section_7_layout.specs.Runs.{StartsNear, Limited};

@@ -1,4 +1,4 @@
--- Document 01, "Section 7": where the runs of a section's groups lie, and what stands before them.
+-- RULES, "Section 7": where the runs of a section's groups lie, and what stands before them.
 use Prim.Native.Nat.{ℕ, _+_, _*_, _^_, _≤_, _<_}
 use mathlib.Core.Bool.{cond}
 use mathlib.Core.List.{List}

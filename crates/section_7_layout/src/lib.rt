@@ -1,4 +1,4 @@
-// Section 7: where the runs of its groups lie, and what stands before them (document 01, "Section 7").
+// Section 7: where the runs of its groups lie, and what stands before them (RULES, "Section 7").
 ghost use mathlib.Core.Path.{_≡_};
 ghost use Prim.Native.Nat.{_+_, _*_, _<_, _≤_, _^_};
 ghost use lib.ListN.{length};

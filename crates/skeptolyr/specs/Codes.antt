@@ -1,4 +1,4 @@
--- Document 01, "What the reader takes": the one number that answers C. The counts of check share it, 32 bits each, messages on top; the top bit
+-- RULES, "What C is given": the one number that answers C. The counts of check share it, 32 bits each, messages on top; the top bit
 -- says that it is a refusal.
 use Prim.Native.Nat.{ℕ, _+_, _*_, _^_}
 use Rattle.refusals.specs.Refusals.{codeOf}

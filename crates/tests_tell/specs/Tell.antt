@@ -1,5 +1,5 @@
--- The answers of describe and place as numbers in a run that C lends: so many of its first numbers are the answer, and the others stay. A
--- refusal is the code that C is given for it, and changes nothing.
+-- RULES, "A description": the answers of describe and place as numbers in a run that C lends: so many of its first numbers are the answer, and the
+-- others stay. A refusal is the code that C is given for it, and changes nothing.
 use Prim.Native.Nat.{ℕ}
 use mathlib.Core.Bool.{Bool, cond}
 use lib.Dec.{ltb}

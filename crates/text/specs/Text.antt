@@ -1,4 +1,4 @@
--- Text as octets in a run that is lent whole: what is put, and where. What lies before and behind it stays as it is.
+-- RULES, "Listing": text as octets in a run that is lent whole: what is put, and where. What lies before and behind it stays as it is.
 use Prim.Native.Nat.{ℕ, zero, suc, _+_, _-_, _*_, _/_}
 use Prim.Native.Char.{code}
 use Prim.Native.String.{String, [] as noText, _∷_ as _andThen_}

@@ -1,4 +1,4 @@
--- Demand 3 (document 01, "From X to a double"): how far the double lies from the exact fraction (R + X x 2^E) / 10^D, over whole numbers.
+-- RULES, "From X to a double", and demand 3: how far the double lies from the exact fraction (R + X x 2^E) / 10^D, over whole numbers.
 use mathlib.Core.Path.{_≡_}
 use Prim.Native.Nat.{ℕ, suc, _+_, _-_, _*_, _^_, _≤_}
 use mathlib.Core.Bool.{Bool, true, false}

@@ -32,7 +32,7 @@ use Rattle.doubles.proofs as doubles
 use Rattle.skeptolyr.proofs as skeptolyr
 use Rattle.listing_file.proofs as listing
 
--- RULES, "What the reader takes": a refusal is 2^63 + number x 2^32 + place, from which number and place can be taken again. It is the first that applies.
+-- RULES, "What C is given": a refusal is 2^63 + number x 2^32 + place, from which number and place can be taken again. It is the first that applies.
 pub record Refuses (file : List ℕ) (q : Question) (code : ℕ) : Type 0 where
   pub number : ℕ
   pub place : ℕ

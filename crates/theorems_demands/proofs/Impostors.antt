@@ -1,4 +1,4 @@
--- There is no impostor: document 01's file of two fields, and its first field alone, tell each of them from a reader that meets the contracts.
+-- There is no impostor: the rules' file of two fields, and its first field alone, tell each of them from a reader that meets the contracts.
 use Prim.Native.Nat.{ℕ}
 use mathlib.Core.Path.{_≡_, refl, sym, ap, _∙_}
 use mathlib.Core.Bool.{false}

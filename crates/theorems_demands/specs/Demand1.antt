@@ -1,4 +1,4 @@
--- Demand 1: a question is answered in full, or refused with one number and place: the first in document 01's order whose condition holds. A refused
+-- Demand 1: a question is answered in full, or refused with one number and place: the first in the rules' order whose condition holds. A refused
 -- call alters nothing that was lent. (That every call ends, and stays inside what it was lent, is proved of each function by the checker itself.)
 use Prim.Native.Nat.{ℕ, _+_, _≤_, _<_}
 use mathlib.Core.Path.{_≡_}
@@ -65,7 +65,7 @@ pub record Fault (file : List ℕ) (why : declaredWhy.Why) (place : ℕ) : Type 
   pub inside : p < length file
   pub faulty : Faulty file p (refusal why place)
 
--- Document 01, "Refusals by number": the condition under which the refusal of a number applies to a question, and its place. Each is stated for itself,
+-- RULES, "Refusals by number": the condition under which the refusal of a number applies to a question, and its place. Each is stated for itself,
 -- whatever else is wrong: where a section cannot be judged without what another says, that one is taken.
 pub data Applies (file : List ℕ) (q : Question) : (number place : ℕ) → Type 0 where
   -- The length of the file.

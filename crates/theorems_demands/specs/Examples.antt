@@ -1,4 +1,4 @@
--- Document 01, "Examples on either side": the examples marked P, as one table. Each row cites the definition that the code is proved to meet.
+-- RULES, "Examples on either side": the examples that are proved, as one table. Each row cites the definition that the code is proved to meet.
 use mathlib.Core.Path.{_≡_}
 use mathlib.Core.Bool.{false}
 use mathlib.Core.List.{List, [], _∷_}
@@ -57,6 +57,7 @@ examplePresent i = presentAt section6 (Presence.Own (at 0)) 4 i
 abbrev may : ℕ → ℕ → Time
 may day hour = record { date = date 2017 5 day; hour = hour; minute = 0; second = 0 }
 
+-- The table.
 pub record Examples : Type 0 where
   -- Sign and size, in two octets and in one. A set sign alone is zero.
   pub minusOne : signedIn (0x80 ∷ 0x01 ∷ []) 2 ≡ negℤ (pos 1)

@@ -1,4 +1,4 @@
--- Document 01, "How strong each statement is": readers that would satisfy weaker statements. Each of these is any function that meets the contract of check or
+-- RULES, "How strong each statement is": readers that would satisfy weaker statements. Each of these is any function that meets the contract of check or
 -- of decode for every input, and yet does as the impostor does: there is none.
 use Prim.Native.Nat.{ℕ}
 use mathlib.Core.Path.{_≡_}
@@ -41,6 +41,7 @@ leftBy file k start values presence =
 abbrev pub MeetsDecode : Decoder → Type 0
 MeetsDecode decoder = (file : List ℕ) (k start : ℕ) (values : List Float) (presence : List ℕ) → decoder file k start values presence ≡ leftBy file k start values presence
 
+-- What no function does that meets the contract of check, or of decode.
 pub record NoImpostor : Type 0 where
   -- One that refuses every file.
   pub refuses-every-file : (c : Checker) → MeetsCheck c → ((file : List ℕ) → (r : Refusal) × (c file ≡ Checked.Refused r)) → ⊥

@@ -1,5 +1,5 @@
--- RULES, "Where to use each form": where a description has an enum, the number of its case is what the octets of the field's sections hold. These are the
--- numbers by which the cases are told to whoever reads numbers alone.
+-- RULES, "A description" and "Where to use each form": where a description has an enum, the number of its case is what the octets of the field's
+-- sections hold. These are the numbers by which the cases are told to whoever reads numbers alone.
 use Prim.Native.Nat.{ℕ}
 use mathlib.Core.Path.{_≡_}
 use mathlib.Core.Bool.{cond}

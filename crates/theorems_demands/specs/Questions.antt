@@ -1,4 +1,4 @@
--- Document 01, "What the reader takes": the questions that are asked of a file, and what comes of each, by the definitions that the contracts of the
+-- RULES, "The five questions": the questions that are asked of a file, and what comes of each, by the definitions that the contracts of the
 -- public functions cite.
 use Prim.Native.Nat.{ℕ}
 use mathlib.Core.List.{List}

@@ -1,4 +1,4 @@
--- Document 01, "Listing": its file of 276 octets with two fields, and the file with the first of them alone.
+-- RULES, "Examples on either side" and "Listing": the file of 276 octets with two fields, and the file with the first of them alone.
 use Prim.Native.Nat.{ℕ}
 use mathlib.Core.List.{List, [], _∷_, _++_}
 
@@ -65,6 +65,7 @@ abbrev rain7 : List ℕ
 rain7 =
     0x00 ∷ 0x00 ∷ 0x00 ∷ 0x08 ∷ 0x07 ∷ 0x00 ∷ 0x50 ∷ 0x07 ∷ []
 
+-- The file with both fields, and the one with the first alone.
 unfoldable pub twoFields : List ℕ
 twoFields = section0 0x01 0x14 ++ section1 ++ section3 ++ temperature4 ++ temperature5 ++ temperature6 ++ temperature7 ++ rain4 ++ rain5 ++ rain6 ++ rain7 ++ section8
 

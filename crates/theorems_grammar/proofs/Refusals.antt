@@ -1,4 +1,4 @@
--- The theorems `refuses-so` and `check-refuses`: a file is refused by its first fault in document 01's order, and by no other.
+-- The theorems `refuses-so` and `check-refuses`: a file is refused by its first fault in the rules' order, and by no other.
 use Prim.Native.Nat.{ℕ, _+_, _≤_}
 use mathlib.Core.Path.{_≡_, refl, ap, subst, _∙_}
 use mathlib.Core.List.{List, [], _++_}

@@ -1,5 +1,5 @@
--- FM 92 GRIB edition 2 as document 01 condenses it: messages tile a file, and sections tile each message. These relations say what a file is;
--- they compute nothing.
+-- RULES, "Tiling a file": FM 92 GRIB edition 2 as it is taken here. Messages tile a file, and sections tile each message. These relations say what a file
+-- is; they compute nothing.
 use Prim.Native.Nat.{ℕ, _+_, _≤_}
 use mathlib.Core.Path.{_≡_}
 use mathlib.Core.List.{List, [], _∷_, _++_}

@@ -1,4 +1,4 @@
--- What it means that a message stands octet for octet at another place, perhaps of another file.
+-- RULES, "Tiling a file": what it means that a message stands octet for octet at another place, perhaps of another file.
 use Prim.Native.Nat.{ℕ, _+_, _-_, _≤_, _<_}
 use mathlib.Core.Path.{_≡_}
 use mathlib.Core.List.{List}

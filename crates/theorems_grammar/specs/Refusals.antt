@@ -1,4 +1,4 @@
--- Document 01, "Tiling a file" and "Refusals by number": the refusals of check in their order, each with its place and the first condition that
+-- RULES, "Tiling a file" and "Refusals by number": the refusals of check in their order, each with its place and the first condition that
 -- holds. What comes first in the file is refused first.
 use Prim.Native.Nat.{ℕ, _+_, _≤_, _<_}
 use mathlib.Core.Path.{_≡_}

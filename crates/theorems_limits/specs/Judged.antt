@@ -1,4 +1,5 @@
--- Whether a section is taken, as its reading tells; and how a row says which numbers a section may hold in some of its octets.
+-- RULES, "Examples on either side": whether a section is taken, as its reading tells; and how a row says which numbers a section may hold in some of its
+-- octets.
 use Prim.Native.Nat.{ℕ, _+_}
 use mathlib.Core.Bool.{Bool, true, false, not, _&&_}
 use mathlib.Core.Path.{_≡_}

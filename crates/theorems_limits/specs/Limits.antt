@@ -1,4 +1,5 @@
--- Document 01, "Sections in force": every limit that it gives, on either side, as one table. Each row cites the definition that the code is proved to meet.
+-- RULES, "Examples on either side": every limit of "Sections in force", on either side, as one table. Each row cites the definition that the code is
+-- proved to meet.
 use Prim.Native.Nat.{ℕ}
 use mathlib.Core.Bool.{true, false}
 use mathlib.Core.Path.{_≡_}

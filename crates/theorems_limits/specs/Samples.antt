@@ -1,5 +1,5 @@
--- A section of each kind as octets, which the rows of the table change. Octets for which there is no rule differ from their neighbours, so that an
--- octet that is read in the wrong place shows.
+-- RULES, "Examples on either side": a section of each kind as octets, which the rows of the table change. Octets for which there is no rule differ from
+-- their neighbours, so that an octet that is read in the wrong place shows.
 use Prim.Native.Nat.{ℕ, zero, suc, _+_, _-_, _/_, _%_}
 use mathlib.Core.List.{List, [], _∷_, _++_}
 use lib.ListN.{take, drop}

@@ -1,4 +1,4 @@
--- Steps a to e of document 01's "Tiling a file" once more, told by conditions: each outcome with the first condition that holds. The proofs
+-- RULES, "Tiling a file", steps a to e once more, told by conditions: each outcome with the first condition that holds. The proofs
 -- show that it says what `headerAt` computes.
 use Prim.Native.Nat.{ℕ, _+_, _-_, _≤_, _<_}
 use mathlib.Core.Path.{_≡_}

@@ -1,5 +1,5 @@
--- What is known of an answer of find: where field k is among the fields, its sections lie in the file, which is not too large; and a refusal names
--- a place within the largest file that is taken.
+-- RULES, "Tiling a file": what is known of an answer of find: where field k is among the fields, its sections lie in the file, which is not too large;
+-- and a refusal names a place within the largest file that is taken.
 use Prim.Native.Nat.{ℕ, _≤_, _<_}
 use mathlib.Core.List.{List}
 use lib.ListN.{length}

@@ -1,4 +1,4 @@
--- Document 01, "Tiling a file", and refusals 1 to 7: how messages tile a file, and where its fields are.
+-- RULES, "Tiling a file", and refusals 1 to 7: how messages tile a file, and where its fields are.
 use Prim.Native.Nat.{ℕ, _+_, _-_}
 use mathlib.Core.List.{List, [], _++_}
 use mathlib.Core.Bool.{cond, not}

@@ -1,4 +1,4 @@
-// The messages of a file: what steps a to f of document 01's "Tiling a file" say of one, and the tiling of the whole file.
+// The messages of a file: what steps a to f of RULES, "Tiling a file", say of one, and the tiling of the whole file.
 ghost use mathlib.Core.Path.{_≡_};
 ghost use mathlib.Core.Bool.{cond};
 ghost use Prim.Native.Nat.{_-_, _≤_};

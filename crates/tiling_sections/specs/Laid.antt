@@ -1,5 +1,5 @@
--- What is known of where a field lies: section 0 of its message is in the file, each of its sections lies there whole, and so does the section 6
--- that has the bitmap in force.
+-- RULES, "Tiling a file": what is known of where a field lies: section 0 of its message is in the file, each of its sections lies there whole, and so
+-- does the section 6 that has the bitmap in force.
 use Prim.Native.Nat.{ℕ, _+_, _≤_}
 use mathlib.Core.Path.{_≡_}
 use mathlib.Core.List.{List}
@@ -14,6 +14,7 @@ use Rattle.tiling_sections.specs.declared.Located.{Located}
 abbrev pub Stored : List ℕ → Bitmap → Type 0
 Stored file bitmap = (p : FilePlace) → bitmap ≡ Bitmap.At p → Lies file (p .0)
 
+-- What is known of a field that lies at l.
 pub record Laid (file : List ℕ) (l : Located) : Type 0 where
   pub zero : l .starts .zero .0 + 16 ≤ length file
   pub one : Lies file (l .starts .one .0)

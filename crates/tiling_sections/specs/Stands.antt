@@ -1,4 +1,4 @@
--- Step f of document 01's "Tiling a file" once more, told by conditions: each outcome with the first condition that holds. The proofs show
+-- RULES, "Tiling a file", step f once more, told by conditions: each outcome with the first condition that holds. The proofs show
 -- that it says what `sectionAt` computes.
 use Prim.Native.Nat.{ℕ, _+_, _≤_, _<_}
 use mathlib.Core.Path.{_≡_}

@@ -1,4 +1,4 @@
--- Document 01, "Tiling a file", step f: the sections from octet 17 of a message up to its last four octets.
+-- RULES, "Tiling a file", step f: the sections from octet 17 of a message up to its last four octets.
 use Prim.Native.Nat.{ℕ, _+_, _-_}
 use mathlib.Core.List.{List, [], _∷_, _++_}
 use mathlib.Core.Bool.{Bool, false, cond, _||_, _&&_}
@@ -46,7 +46,7 @@ sectionAt file p e after =
     (Step.Next (kindAt file p) (at (p + lengthAt file p)))
     (Step.Bad Why.OutOfPlace)))))
 
--- Document 01, "Section 6": the bitmap that indicator 254 refers to is the last one in its grid. A section 6 from p up to q has one where octet
+-- RULES, "Section 6": the bitmap that indicator 254 refers to is the last one in its grid. A section 6 from p up to q has one where octet
 -- 6, its indicator, is there and is 0.
 abbrev pub bitmapBehind : List ℕ → Bitmap → ℕ → ℕ → Bitmap
 bitmapBehind file bitmap p q = cond (leb 6 (q - p) && eqb (octetAt file (placeOf p 6)) 0) (Bitmap.At (at p)) bitmap
@@ -95,6 +95,7 @@ pub data InMessage : Type 0 where
 abbrev pub finishedBy : List ℕ → Walking → ℕ → ℕ → Located
 finishedBy file w n q = record { starts = startsAfter (w .starts) n (w .place); bitmap = bitmapAfter file (w .bitmap) n (w .place) q }
 
+-- The walk, when it has passed that section.
 abbrev pub took : List ℕ → Walking → ℕ → ℕ → Walking
 took file w n q =
     record {

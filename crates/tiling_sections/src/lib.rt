@@ -1,4 +1,4 @@
-// The sections of one message: what stands at a place, and the walk over all of them in search of a field (document 01, "Tiling a file", step f).
+// The sections of one message: what stands at a place, and the walk over all of them in search of a field (RULES, "Tiling a file", step f).
 ghost use mathlib.Core.Path.{_≡_};
 ghost use Prim.Native.Nat.{_+_, _≤_};
 ghost use lib.ListN.{length};

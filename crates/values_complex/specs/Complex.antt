@@ -1,4 +1,4 @@
--- Document 01, "Section 7", complex packing: the groups of a field, one after the other, and the integers X of the field.
+-- RULES, "Section 7", complex packing: the groups of a field, one after the other, and the integers X of the field.
 use Prim.Native.Nat.{ℕ, _+_, _-_, _*_, _≤_, _<_, _^_}
 use mathlib.Core.Path.{_≡_}
 use mathlib.Core.Bool.{true, cond}

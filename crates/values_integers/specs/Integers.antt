@@ -1,4 +1,4 @@
--- Document 01, "Section 7", and the papers' recurrence: the packed integers X of a field. They are numbered from 0, in the order in which they
+-- RULES, "Section 7", and the papers' recurrence: the packed integers X of a field. They are numbered from 0, in the order in which they
 -- are packed; here they are whole numbers with a sign, and nothing limits them.
 use Prim.Native.Nat.{ℕ, zero, suc, _+_, _-_, _*_, _<_}
 use mathlib.Core.Path.{_≡_}

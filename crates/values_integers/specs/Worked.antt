@@ -1,4 +1,4 @@
--- How the code works out the integers of complex packing: in numbers without a sign, and only while each is in its range.
+-- RULES, "Section 7": how the code works out the integers of complex packing: in numbers without a sign, and only while each is in its range.
 use Prim.Native.Nat.{ℕ, zero, suc, _+_}
 use mathlib.Core.Bool.{_&&_, cond}
 use lib.Dec.{leb}

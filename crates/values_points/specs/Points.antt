@@ -1,4 +1,4 @@
--- Document 01, "From X to a double": what is written for the points of a field. Of each point it is known whether it is present (1) or missing
+-- RULES, "From X to a double": what is written for the points of a field. Of each point it is known whether it is present (1) or missing
 -- (0), and how many points before it are present: that many integers are packed before its own.
 use Prim.Native.Nat.{ℕ, zero, suc}
 use mathlib.Core.Bool.{false}

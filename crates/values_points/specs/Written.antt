@@ -1,4 +1,5 @@
--- What is written to the points of a field: each gets its double and whether it is present. Integers go to the points that are present, in order.
+-- RULES, "From X to a double": what is written to the points of a field: each gets its double and whether it is present. Integers go to the points that
+-- are present, in order.
 use Prim.Native.Nat.{ℕ, _+_, _-_, _*_, _/_, _%_, _^_, _≤_, _<_}
 use mathlib.Core.Path.{_≡_}
 use mathlib.Core.Bool.{Bool, false, _&&_}

@@ -1,4 +1,4 @@
--- Simple packing: the numbers of a stretch of points that are all present.
+-- RULES, "Section 7", simple packing: the numbers of a stretch of points that are all present.
 use Prim.Native.Nat.{ℕ, _+_, _-_, _*_}
 use mathlib.Core.List.{List}
 use Rattle.bits.specs.Bits.{bitsAt}

@@ -27,7 +27,7 @@ fn file(parts: &[&[Vec<u8>]]) -> Vec<u8> {
     Message::of(parts.concat()).octets()
 }
 
-/// Document 01's file of 276 octets: a bitmap and then 254, 12-bit values, a temperature and a sum of rain.
+/// The rules' file of 276 octets: a bitmap and then 254, 12-bit values, a temperature and a sum of rain.
 fn two_fields() -> Vec<u8> {
     let level = Some(Level { factor: 0.into(), scaled: 10 });
     let temperature = Section4 { surface: 103, level, forecast: 1, ..Section4::default() };
