@@ -4,7 +4,9 @@ import re
 import subprocess
 import sys
 
-from tests.help import believed, report
+from tests import header
+from tests.help import believed, reading, report
+from tools import spec
 
 TOP = os.path.dirname(os.path.dirname(os.path.abspath(__file__)))
 os.chdir(TOP)
@@ -238,6 +240,7 @@ STATEMENTS = {
     'examples': ('theorems_demands/proofs/Examples.antt', ['pub examples : Examples']),
     'calls': ('theorems_calls/proofs/Calls.antt', ['pub calls : Calls']),
     'rattle-calls': ('theorems_calls/proofs/Calls.antt', ['pub rattle-calls : RattleCalls']),
+    'section-limits': ('theorems_limits/proofs/Limits.antt', ['pub section-limits : SectionLimits']),
 }
 
 
@@ -405,6 +408,54 @@ def links_lead_somewhere():
                     yield '%s:%d: no %s' % (name, number, path)
 
 
+def rules_are_cited():
+    """No tracked file cites a page that is not in the repository, and each heading of docs/RULES.md that is cited is there."""
+    heads = set(re.findall(r'^##+ (.+)$', '\n'.join(lines_of('docs/RULES.md')), re.M))
+    for name in FILES:
+        try:
+            text = '\n'.join(lines_of(name))
+        except UnicodeDecodeError:
+            continue
+        for match in re.finditer(r'document[\s*#/-]+0[12]\b|source[\s*#/-]+documents?\b', text, re.I):
+            yield '%s:%d: %s' % (name, text.count('\n', 0, match.start()) + 1, match.group())
+        for match in re.finditer(r'RULES, ((?:"[A-Z][^"\n]*"(?:,? and )?)+)', text):
+            for head in set(re.findall(r'"([^"]+)"', match.group(1))) - heads:
+                yield '%s:%d: docs/RULES.md has no heading "%s"' % (name, text.count('\n', 0, match.start()) + 1, head)
+
+
+def spec_is_written():
+    """docs/SPEC.md is what `make spec` writes, with every believed line; and no line of it, or of docs/RULES.md, has 160 characters or more."""
+    try:
+        page = spec.text()
+    except SystemExit as fault:
+        page = str(fault)
+    if '\n'.join(lines_of('docs/SPEC.md')) != page:
+        yield 'docs/SPEC.md: run make spec' if page.startswith('# ') else page
+    believed_lines = sum(count for _, count in believed.table() + believed.shape_table())
+    if '\n| In all | %d |\n' % believed_lines not in page:
+        yield 'docs/SPEC.md: %d lines are believed' % believed_lines
+    for name in ('docs/RULES.md', 'docs/SPEC.md'):
+        for number, line in enumerate(lines_of(name), 1):
+            if len(line) >= 160:
+                yield '%s:%d: %d characters' % (name, number, len(line))
+
+
+def rules_are_those_tested():
+    """docs/RULES.md has the refusals that the header is held to, the listing of the sample, and the figures of the proved examples."""
+    parts = dict(part.split('\n', 1) for part in '\n'.join(lines_of('docs/RULES.md')).split('\n## ')[1:])
+    told = dict(re.findall(r'^\| (\d+) \| .* \| ([^|]+) \|$', parts['Refusals by number'], re.M))
+    for number, _, place in header.TABLE:
+        if not 3 <= number <= 7 and told.get(str(number)) != place:
+            yield 'docs/RULES.md: refusal %d has place %s' % (number, place)
+    with open('samples/two-fields.grib2', 'rb') as sample:
+        if '\n```\n%s```\n' % reading.listing(sample.read()) not in parts['Listing']:
+            yield 'docs/RULES.md: the listing is not that of samples/two-fields.grib2'
+    proved = '\n'.join(lines_of('crates/theorems_demands/specs/Examples.antt')).replace('_', '').lower()
+    for figure in re.findall(r'\b\d[0-9A-F,]{3,}\b', parts['Examples on either side'].split('| Run |')[0]):
+        if figure.replace(',', '').lower() not in proved:
+            yield 'docs/RULES.md: %s is in no row of Examples' % figure
+
+
 def own_words():
     """No tracked file names a path of a machine."""
     roots = '|'.join(('wo' + 'rk', 'ho' + 'me', 'ro' + 'ot', 'op' + 't/rattle'))
@@ -422,7 +473,8 @@ RULES = [
     crates_are_listed, lowest_first, sources_in_crates, layout, must_fail_edits, opening_comments, printed_places, unused_names, short_functions,
     contracts_fit, names_mean_one_thing, code_stands_on_code, nothing_asked_of_users, outcomes_are_determined, demands_are_listed,
     demands_are_stated, promises_stand_in_specs, definitions_are_read, trust_is_counted, demands_name_what_is_there, evidence_is_counted, version_is_told,
-    sample_is_the_sample, texts_are_narrow, words_are_plain, links_lead_somewhere, own_words,
+    sample_is_the_sample, texts_are_narrow, words_are_plain, links_lead_somewhere, rules_are_cited, spec_is_written,
+    rules_are_those_tested, own_words,
 ]
 
 

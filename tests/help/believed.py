@@ -81,7 +81,7 @@ class File:
         for number, line in enumerate(self.lines):
             if not line.strip():
                 name = None
-            elif re.match(r'\s*(--|use )|pub mod ', line):
+            elif re.match(r'\s*(--|use |infix)|pub mod ', line):
                 continue
             elif re.match(r'\s*module ', line):
                 outer, name = number, None
@@ -326,8 +326,8 @@ def without_theorems():
 
 
 def is_counted(line):
-    """Is it a line of a definition, and neither blank nor a comment nor a line that brings names or files?"""
-    return bool(line.strip()) and not re.match(r'\s*--|use |(pub )?mod ', line)
+    """Is it a line of a definition, and neither blank nor a comment nor a line that brings names or files or says how an operator is written?"""
+    return bool(line.strip()) and not re.match(r'\s*(--|infix)|use |(pub )?mod ', line)
 
 
 def all_lines():
