@@ -1,6 +1,6 @@
 # The targets for daily work. `tools/test` and `tools/sample` need no make.
 .DEFAULT_GOAL := help
-.PHONY: help sample test soak bench peers fuzz check lib examples picture man build install uninstall dev fmt house believed spec clean
+.PHONY: help sample test soak bench peers fuzz check lib examples picture man build install uninstall dev fmt house believed spec limits clean
 
 help: ## List the targets.
 	@awk -F ':.*## ' '/^[a-z]+:.*## / { printf "  make %-9s %s\n", $$1, $$2 }' $(MAKEFILE_LIST)
@@ -61,6 +61,9 @@ believed: ## Count the lines of definitions that the promises stand on.
 
 spec: ## Write docs/SPEC.md, all that is believed on one page, under the heads of docs/RULES.md.
 	@python3 -m tools.spec
+
+limits: ## Change each number of the sections' definitions by one, see a row of the table of limits break, and list which.
+	@python3 -m tests.help.limits
 
 clean: ## Remove all that was built.
 	rm -rf target

@@ -5,7 +5,7 @@ import subprocess
 import sys
 
 from tests import header
-from tests.help import believed, reading, report
+from tests.help import believed, limits, reading, report
 from tools import spec
 
 TOP = os.path.dirname(os.path.dirname(os.path.abspath(__file__)))
@@ -408,6 +408,11 @@ def links_lead_somewhere():
                     yield '%s:%d: no %s' % (name, number, path)
 
 
+def limits_are_pinned():
+    """Each number of the sections' definitions has a row of the table of limits that breaks where it is changed by one, as tests/help/limits.txt tells."""
+    yield from limits.faults()
+
+
 def rules_are_cited():
     """No tracked file cites a page that is not in the repository, and each heading of docs/RULES.md that is cited is there."""
     heads = set(re.findall(r'^##+ (.+)$', '\n'.join(lines_of('docs/RULES.md')), re.M))
@@ -473,7 +478,7 @@ RULES = [
     crates_are_listed, lowest_first, sources_in_crates, layout, must_fail_edits, opening_comments, printed_places, unused_names, short_functions,
     contracts_fit, names_mean_one_thing, code_stands_on_code, nothing_asked_of_users, outcomes_are_determined, demands_are_listed,
     demands_are_stated, promises_stand_in_specs, definitions_are_read, trust_is_counted, demands_name_what_is_there, evidence_is_counted, version_is_told,
-    sample_is_the_sample, texts_are_narrow, words_are_plain, links_lead_somewhere, rules_are_cited, spec_is_written,
+    sample_is_the_sample, texts_are_narrow, words_are_plain, links_lead_somewhere, limits_are_pinned, rules_are_cited, spec_is_written,
     rules_are_those_tested, own_words,
 ]
 

@@ -156,7 +156,7 @@ pub record SectionLimits : Type 0 where
   pub grid16 : octetsSphere 16 16 takes (0 ∷ []) refuses (1 ∷ [])
   pub radii : octetsSphere 17 20 takes (1 ∷ 0x0100_0000 ∷ 0xffff_fffe ∷ []) refuses (0 ∷ 0xffff_ffff ∷ [])
   pub readEarth6 : gridAt (inFile sample3) start ≡ Gridded.On (sampleGrid 6 6371229)
-  pub readSphere : gridAt (inFile sphere3) start ≡ Gridded.On (sampleGrid 1 6371000)
+  pub readSphere : gridAt (inFile (holding 17 20 0x0102_0304 sphere3)) start ≡ Gridded.On (sampleGrid 1 0x0102_0304)
   -- The counts: Ni, Nj, their product, and what octets 7-10 tell of it.
   pub columns : (λ ni. heaped ni 1 ni) takes (1 ∷ 65535 ∷ []) refuses (0 ∷ 65536 ∷ [])
   pub rows : (λ nj. heaped 1 nj nj) takes (1 ∷ 65535 ∷ []) refuses (0 ∷ 65536 ∷ [])
@@ -233,7 +233,7 @@ pub record SectionLimits : Type 0 where
   pub template53 : octetsComplex 10 11 takes (3 ∷ []) refuses (0 ∷ 2 ∷ 4 ∷ 259 ∷ [])
   pub referenceValues : octetsSimple 12 15 takes (0 ∷ 0x7f7f_ffff ∷ 0xff7f_ffff ∷ []) refuses (0x7f80_0000 ∷ 0xff80_0000 ∷ 0x7fc0_0000 ∷ [])
   pub binaryScales : octetsSimple 16 17 takes (127 ∷ minus2 127 ∷ []) refuses (128 ∷ minus2 128 ∷ [])
-  pub decimalScales : octetsSimple 18 19 takes (22 ∷ minus2 22 ∷ []) refuses (23 ∷ minus2 23 ∷ [])
+  pub decimalScales : octetsSimple 18 19 takes (22 ∷ minus2 22 ∷ []) refuses (23 ∷ minus2 23 ∷ 263 ∷ [])
   pub bits : octetsSimple 20 20 takes (0 ∷ 31 ∷ []) refuses (32 ∷ [])
   pub octet21 : octetsSimple 21 21 takes (0 ∷ []) refuses (1 ∷ [])
   pub readSimple : representationAt (inFile simple5) start ≡ sampleRepresentation Template.Simple
