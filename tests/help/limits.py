@@ -327,6 +327,7 @@ def judge_all(changes):
         with open(TRIED, encoding='ascii') as text:
             remembered = json.load(text)
     found, free = {change: remembered[marks[change]] for change in changes if marks[change] in remembered}, list(range(JOBS))
+    found.update({change: [] for change in changes if not version_of(change, files).rows})
     left = [change for change in changes if change not in found]
     parts = [left[at:at + TOGETHER] for at in range(0, len(left), TOGETHER)]
 
@@ -380,6 +381,8 @@ def write_list(found):
 
 def main():
     changes = [(number, by) for number in numbers() if len(sys.argv) == 1 or number.definition in sys.argv[1:] for by in number.changes()]
+    if not changes:
+        sys.exit('limits: there is no number to change')
     found = judge_all(changes)
     results = [is_right(change, found[change]) for change in changes]
     if len(sys.argv) == 1 and all(results):

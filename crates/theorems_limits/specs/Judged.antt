@@ -45,6 +45,7 @@ infix 10 _takes_refuses_
 abbrev pub _takes_refuses_ : (ℕ → Bool) → List ℕ → List ℕ → Type 0
 _takes_refuses_ judged inside outside = every judged inside && every (λ number. not (judged number)) outside ≡ true
 
+-- Times, and numbers with a sign.
 abbrev pub clock : ℕ → ℕ → ℕ → ℕ → ℕ → ℕ → Time
 clock year month day hour minute second = record { date = date year month day; hour = hour; minute = minute; second = second }
 
@@ -160,7 +161,7 @@ octetsComplex a b number = taken5 (holding a b number complex5)
 abbrev pub grouped5 : ℕ → ℕ → Bool
 grouped5 groups n = taken5 (holding 6 9 n (holding 32 35 groups complex5))
 
--- Section 6 for so many points, of which n are present, with a bitmap of its own; and with no bitmap, a length and an indicator, behind the same bitmap.
+-- Section 6 for so many points, of which n are present: with a bitmap of its own, and without one, after a section that has it.
 abbrev isMarked : Marked → Bool
 isMarked (Marked.As p) = true
 isMarked Marked.NotTaken = false
@@ -177,7 +178,7 @@ octetsUnmapped bitmap points n a b number = isMarked (presenceAt (inFile (bitmap
 abbrev pub theBitmap : Bitmap
 theBitmap = Bitmap.At (at start)
 
--- Section 7 by either template, for so many values, with another number in its octets from a to b.
+-- Section 7 by either template, for so many values of so many bits, with another length.
 abbrev isPacked : Packed → Bool
 isPacked (Packed.As d) = true
 isPacked Packed.NotTaken = false
@@ -185,6 +186,7 @@ isPacked Packed.NotTaken = false
 abbrev pub valuesBy : Template → ℕ → ℕ → Representation
 valuesBy template n bits = record { n = n; r = 0; e = above 0; d = above 0; bits = bits; template = template }
 
+-- The sample's three groups: the reference for their widths, the reference for their lengths, what a stored length is multiplied by, and the last length.
 abbrev pub grouping7 : ℕ → ℕ → ℕ → ℕ → Grouping
 grouping7 width length increment last =
     record {

@@ -1,5 +1,7 @@
 -- RULES, "Examples on either side": every limit of "Sections in force", on either side, as one table. Each row cites the definition that the code is
--- proved to meet.
+-- proved to meet. `octets1 20 20 takes (0 ∷ 1 ∷ []) refuses (2 ∷ [])` says that the sample of section 1 is taken with 0 or 1 in its octet 20, and not with
+-- 2. Some numbers that are refused differ from a taken one in one octet alone, so that each octet is seen to count. What is read of a sample is said whole,
+-- so that an octet that is read in the wrong place shows. `make limits` changes each number of the definitions by one, and sees a row break.
 use Prim.Native.Nat.{ℕ}
 use mathlib.Core.Bool.{true, false}
 use mathlib.Core.Path.{_≡_}
@@ -82,6 +84,7 @@ fiveHoursAhead = clock 2017 5 15 17 30 45
 abbrev sampleLevel : Level
 sampleLevel = Level.At (below 2) 0x0102_0304
 
+-- The same with a number in which each octet counts, for the forecast, and for the length of the interval.
 abbrev fourOctetForecast : List ℕ
 fourOctetForecast = inFile (holding 19 22 0x0102_0304 instant4)
 
