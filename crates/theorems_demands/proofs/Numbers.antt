@@ -3,11 +3,11 @@ use Prim.Native.Nat.{ℕ}
 use mathlib.Core.Path.{_≡_, refl, sym, subst}
 use mathlib.Core.Bool.{Bool, true, false, _&&_, _||_}
 use mathlib.Core.List.{List}
-use borrow.Author.Tests.{eqb-true}
+use borrow.Author.Tests.{eqb-true, eqb-false}
 use lib.Dec.{eqb, leb, ltb}
 use lib.ListN.{getD}
 use Rattle.octets.specs.Places.{at, placeOf}
-use Rattle.octets.proofs.Cases.{apart, split}
+use Rattle.octets.proofs.Cases.{apart, split, both}
 use Rattle.calendar.specs.declared.Time.{Time}
 use Rattle.calendar.specs.declared.Reading.{Reading}
 use Rattle.calendar.specs.declared.Reading.the-variants as Reading
@@ -51,15 +51,7 @@ use Rattle.question.specs.Numbers.{levelNumbers, kindNumber, productNumbers}
 use Rattle.question.specs.Judged.{Judged}
 use Rattle.theorems_demands.specs.Numbers.{levelHeld, InNumbers}
 
--- Where both of two tests hold, the second does; and where one of two holds and it is not the first, it is the second.
-second : (a b : Bool) → a && b ≡ true → b ≡ true
-second true b e = e
-second false b e = apart cc
-
-first : (a b : Bool) → a && b ≡ true → a ≡ true
-first true b e = refl
-first false b e = apart cc
-
+-- Of two tests one of which holds, it is the first or the second.
 either : {A : Type 0} (a b : Bool) → a || b ≡ true → (a ≡ true → A) → (b ≡ true → A) → A
 either true b e left right = left refl
 either false b e left right = right e
@@ -71,14 +63,14 @@ module _ (file : List ℕ) (s : ℕ) where
       split (eqb (lengthAt file s) 21 && eqb (held file s 10 11) 0)
       (λ simple.
       let same : Template.Simple ≡ t = cc (rw simple at e) in
-      subst (λ (x : declaredTemplate.Template). templateNumber x ≡ held file s 10 11) same (sym (eqb-true (held file s 10 11) 0 (second (eqb (lengthAt file s) 21) _ simple))))
+      subst (λ (x : declaredTemplate.Template). templateNumber x ≡ held file s 10 11) same (sym (eqb-true (held file s 10 11) 0 (both (eqb (lengthAt file s) 21) (eqb (held file s 10 11) 0) simple .1))))
       (λ other.
       split (eqb (lengthAt file s) 49 && eqb (held file s 10 11) 3)
       (λ complex.
       split (isDifferenced file s && isGrouping (groupingAt file s) (held file s 6 9))
       (λ grouped.
       let same : Template.Complex (groupingAt file s) ≡ t = cc (rw (other, complex, grouped) at e) in
-      subst (λ (x : declaredTemplate.Template). templateNumber x ≡ held file s 10 11) same (sym (eqb-true (held file s 10 11) 3 (second (eqb (lengthAt file s) 49) _ complex))))
+      subst (λ (x : declaredTemplate.Template). templateNumber x ≡ held file s 10 11) same (sym (eqb-true (held file s 10 11) 3 (both (eqb (lengthAt file s) 49) (eqb (held file s 10 11) 3) complex .1))))
       (λ loose. apart (cc (rw (other, complex, loose) at e))))
       (λ neither. apart (cc (rw (other, neither) at e))))
 
@@ -173,8 +165,8 @@ module _ (file : List ℕ) (s : ℕ) where
         template =
             λ test.
             either (eqb (lengthAt file s) 34 && eqb (productTemplateAt file s) 0) (eqb (lengthAt file s) 58 && eqb (productTemplateAt file s) 8) test
-            (λ simple. absurd (other (eqb-true (productTemplateAt file s) 0 (second (eqb (lengthAt file s) 34) _ simple))))
-            (λ eight. sym (eqb-true (productTemplateAt file s) 8 (second (eqb (lengthAt file s) 58) _ eight)));
+            (λ simple. absurd (other (eqb-true (productTemplateAt file s) 0 (both (eqb (lengthAt file s) 34) (eqb (productTemplateAt file s) 0) simple .1))))
+            (λ eight. sym (eqb-true (productTemplateAt file s) 8 (both (eqb (lengthAt file s) 58) (eqb (productTemplateAt file s) 8) eight .1)));
         kind = λ end kind same. let alike : k ≡ kind = cc in subst (λ (x : Kind). kindNumber x ≡ octet file s 47) alike is;
       })
 
@@ -187,18 +179,15 @@ module _ (file : List ℕ) (s : ℕ) where
       (λ other.
       split (eqb (octet file s 42) 1)
       (λ one.
-      split (eqb (octet file s 47) 0) (λ mean. interval-by valid Kind.Mean (not-zero other) (sym (eqb-true _ _ mean)) (rw (other, one, mean) at e))
+      split (eqb (octet file s 47) 0) (λ mean. interval-by valid Kind.Mean (eqb-false _ _ other) (sym (eqb-true _ _ mean)) (rw (other, one, mean) at e))
       (λ mean.
-      split (eqb (octet file s 47) 1) (λ sum. interval-by valid Kind.Sum (not-zero other) (sym (eqb-true _ _ sum)) (rw (other, one, mean, sum) at e))
+      split (eqb (octet file s 47) 1) (λ sum. interval-by valid Kind.Sum (eqb-false _ _ other) (sym (eqb-true _ _ sum)) (rw (other, one, mean, sum) at e))
       (λ sum. apart (cc (rw (other, one, mean, sum) at e)))))
       (λ one. apart (cc (rw (other, one) at e))))
-    where
-      not-zero : eqb (productTemplateAt file s) 0 ≡ false → productTemplateAt file s ≡ 0 → ⊥
-      not-zero other is = let test : eqb 0 0 ≡ false = rw is at other in apart cc
 
   taken-is-template : (reference : Time) {d : ProductDefinition} → productDefinitionAt file s reference ≡ Defined.As d → isTemplate file s ≡ true
   unfolding productDefinitionAt
-  taken-is-template reference e = split (isProduct file s) (λ test. first _ _ (first _ _ (first _ _ (first _ _ test)))) (λ not. apart (cc (rw not at e)))
+  taken-is-template reference e = split (isProduct file s) (λ test. both _ _ (both _ _ (both _ _ (both _ _ test .0) .0) .0) .0) (λ not. apart (cc (rw not at e)))
 
 pub in-numbers : (file : List ℕ) (l : Located) (d : Description) → Judged file l d → InNumbers file l d
 in-numbers file l d judged =
