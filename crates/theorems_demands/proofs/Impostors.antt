@@ -77,23 +77,23 @@ abbrev unmarked : List ℕ
 unmarked = 0 ∷ 0 ∷ 0 ∷ 0 ∷ []
 
 module _ (d : Decoder) (meets : MeetsDecode d) where
-  first-left : d twoFields 0 0 zeros unmarked ≡ record { answer = Decoded.Points 4; values = firstField; presence = 1 ∷ 0 ∷ 1 ∷ 0 ∷ [] }
+  first-left : d twoFields 0 0 zeros unmarked ≡ record { answer = Decoded.Points 4; runs = record { values = firstField; presence = 1 ∷ 0 ∷ 1 ∷ 0 ∷ [] } }
   first-left = meets twoFields 0 0 zeros unmarked ∙ rw first-decoded
 
-  second-left : d twoFields 1 0 zeros unmarked ≡ record { answer = Decoded.Points 4; values = secondField; presence = 1 ∷ 0 ∷ 1 ∷ 0 ∷ [] }
+  second-left : d twoFields 1 0 zeros unmarked ≡ record { answer = Decoded.Points 4; runs = record { values = secondField; presence = 1 ∷ 0 ∷ 1 ∷ 0 ∷ [] } }
   second-left = meets twoFields 1 0 zeros unmarked ∙ rw second-decoded
 
   first-answer : d twoFields 0 0 zeros unmarked .answer ≡ Decoded.Points 4
   first-answer = ap (λ (l : Left). l .answer) first-left
 
-  first-values : d twoFields 0 0 zeros unmarked .values ≡ firstField
-  first-values = ap (λ (l : Left). l .values) first-left
+  first-values : d twoFields 0 0 zeros unmarked .runs .values ≡ firstField
+  first-values = ap (λ (l : Left). l .runs .values) first-left
 
   second-answer : d twoFields 1 0 zeros unmarked .answer ≡ Decoded.Points 4
   second-answer = ap (λ (l : Left). l .answer) second-left
 
-  second-values : d twoFields 1 0 zeros unmarked .values ≡ secondField
-  second-values = ap (λ (l : Left). l .values) second-left
+  second-values : d twoFields 1 0 zeros unmarked .runs .values ≡ secondField
+  second-values = ap (λ (l : Left). l .runs .values) second-left
 
 pub no-impostor : NoImpostor
 no-impostor =
@@ -102,7 +102,7 @@ no-impostor =
       invents-the-count = λ c meets n same. let two : 2 ≡ n = same twoFields 1 2 (meets twoFields ∙ two-counted) in let one : 1 ≡ n = same oneField 1 1 (meets oneField ∙ one-counted) in omega arith;
       returns-one-field = λ d meets same. fields-differ (sym (first-values d meets) ∙ same twoFields twoFields 0 1 0 4 4 zeros unmarked (first-answer d meets) (second-answer d meets) ∙ second-values d meets);
       writes-nothing = λ d meets same. field-is-written (sym (first-values d meets) ∙ same twoFields 0 0 zeros unmarked);
-      marks-nothing = λ d meets same. let mark : _≡_ {A = ℕ} 1 0 = ap (λ (marks : List ℕ). getD marks 0 0) (ap (λ (l : Left). l .presence) (sym (first-left d meets)) ∙ same twoFields 0 0 zeros unmarked) in omega arith;
+      marks-nothing = λ d meets same. let mark : _≡_ {A = ℕ} 1 0 = ap (λ (marks : List ℕ). getD marks 0 0) (ap (λ (l : Left). l .runs .presence) (sym (first-left d meets)) ∙ same twoFields 0 0 zeros unmarked) in omega arith;
       repeats-field-0 = λ d meets same. fields-differ (sym (first-values d meets) ∙ sym (same twoFields 1 0 4 zeros unmarked (second-answer d meets)) ∙ second-values d meets);
     }
   where

@@ -4,14 +4,13 @@ use Prim.Native.Nat.{ℕ}
 use mathlib.Core.Path.{_≡_}
 use mathlib.Core.List.{List}
 use lib.Ieee.{Float}
-use lib.ListN.{length}
 use Rattle.refusals.specs.declared.Refusal.{Refusal}
 use Rattle.tiling.specs.declared.Checked as declaredChecked
 use Rattle.tiling.specs.declared.Checked.the-variants as Checked
 use Rattle.tiling.specs.Tiling.{check}
 use Rattle.question_decode.specs.declared.Decoded as declaredDecoded
 use Rattle.question_decode.specs.declared.Decoded.the-variants as Decoded
-use Rattle.question_decode.specs.Decoding.{answer, valuesLeft, presenceLeft}
+use Rattle.theorems_demands.specs.Demand2.{BothRuns, Call, answerTo, leftBehind}
 
 -- A checker, and that it meets the contract of check.
 abbrev pub Checker : Type 0
@@ -23,8 +22,7 @@ MeetsCheck checker = (file : List ℕ) → checker file ≡ check file
 -- What a call of decode leaves: its answer, and both runs.
 pub record Left : Type 0 where
   pub answer : declaredDecoded.Decoded
-  pub values : List Float
-  pub presence : List ℕ
+  pub runs : BothRuns
 
 -- A decoder, and that it meets the contract of decode.
 abbrev pub Decoder : Type 0
@@ -32,11 +30,8 @@ Decoder = List ℕ → ℕ → ℕ → List Float → List ℕ → Left
 
 abbrev pub leftBy : Decoder
 leftBy file k start values presence =
-    record {
-      answer = answer file k start (length values) (length presence);
-      values = valuesLeft file k start values presence;
-      presence = presenceLeft file k start values presence;
-    }
+    let call : Call = record { k = k; start = start; before = record { values = values; presence = presence } } in
+    record { answer = answerTo file call; runs = leftBehind file call }
 
 abbrev pub MeetsDecode : Decoder → Type 0
 MeetsDecode decoder = (file : List ℕ) (k start : ℕ) (values : List Float) (presence : List ℕ) → decoder file k start values presence ≡ leftBy file k start values presence
@@ -52,11 +47,11 @@ pub record NoImpostor : Type 0 where
       (d : Decoder) → MeetsDecode d →
       ((file other : List ℕ) (k l start n m : ℕ) (values : List Float) (presence : List ℕ) →
       d file k start values presence .answer ≡ Decoded.Points n → d other l start values presence .answer ≡ Decoded.Points m →
-      d file k start values presence .values ≡ d other l start values presence .values) → ⊥
+      d file k start values presence .runs .values ≡ d other l start values presence .runs .values) → ⊥
   -- One that writes nothing.
-  pub writes-nothing : (d : Decoder) → MeetsDecode d → ((file : List ℕ) (k start : ℕ) (values : List Float) (presence : List ℕ) → d file k start values presence .values ≡ values) → ⊥
-  pub marks-nothing : (d : Decoder) → MeetsDecode d → ((file : List ℕ) (k start : ℕ) (values : List Float) (presence : List ℕ) → d file k start values presence .presence ≡ presence) → ⊥
+  pub writes-nothing : (d : Decoder) → MeetsDecode d → ((file : List ℕ) (k start : ℕ) (values : List Float) (presence : List ℕ) → d file k start values presence .runs .values ≡ values) → ⊥
+  pub marks-nothing : (d : Decoder) → MeetsDecode d → ((file : List ℕ) (k start : ℕ) (values : List Float) (presence : List ℕ) → d file k start values presence .runs .presence ≡ presence) → ⊥
   -- One that decodes field 0 and repeats it for later k.
   pub repeats-field-0 :
       (d : Decoder) → MeetsDecode d →
-      ((file : List ℕ) (k start n : ℕ) (values : List Float) (presence : List ℕ) → d file k start values presence .answer ≡ Decoded.Points n → d file k start values presence .values ≡ d file 0 start values presence .values) → ⊥
+      ((file : List ℕ) (k start n : ℕ) (values : List Float) (presence : List ℕ) → d file k start values presence .answer ≡ Decoded.Points n → d file k start values presence .runs .values ≡ d file 0 start values presence .runs .values) → ⊥
