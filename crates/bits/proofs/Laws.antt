@@ -92,6 +92,19 @@ first-of-two run at b = rw (two-mul b, bits-add run at b b) (high (bitsAt run at
 pub second-of-two : (run : List ℕ) (at b : ℕ) → bitsAt run at (2 * b) % 2 ^ b ≡ bitsAt run (at + b) b
 second-of-two run at b = rw (two-mul b, bits-add run at b b) (low (bitsAt run at b) b (bits-lt run (at + b) b))
 
+-- Of four numbers of b bits in such a window, which is shifted down until the last of them stands lowest, the one behind `skip` bits is found by a
+-- further shift.
+pub one-of-four : (run : List ℕ) (at b skip down : ℕ) → ((i : ℕ) → getD run i 0 < 256) → b ≤ 14 → skip + down ≡ 3 * b
+    → numberAt run (at / 8) 8 / 2 / 2 ^ (63 - at % 8 - 4 * b) / 2 ^ down % 2 ^ b ≡ bitsAt run (at + skip) b
+one-of-four run at b skip down octets narrow whole =
+    let window : ℕ = numberAt run (at / 8) 8 in
+    let shift : 1 + (63 - at % 8 - 4 * b) + down ≡ 64 - (at % 8 + skip) - b = omega arith in
+    let place : at / 8 * 8 + (at % 8 + skip) ≡ at + skip = omega arith in
+    ap (λ (w : ℕ). w % 2 ^ b) (ap (λ (w : ℕ). w / 2 ^ down) (shr-shr window 1 (63 - at % 8 - 4 * b)) ∙ shr-shr window (1 + (63 - at % 8 - 4 * b)) down ∙ ap (λ (k : ℕ). window / 2 ^ k) shift)
+    ∙ ap (λ (w : ℕ). w / 2 ^ (64 - (at % 8 + skip) - b) % 2 ^ b) (sym (bits-of-octets run (at / 8) 8 octets))
+    ∙ bits-in-window run (at / 8 * 8) 64 (at % 8 + skip) b (omega arith)
+    ∙ ap (λ (i : ℕ). bitsAt run i b) place
+
 -- A 1 that is shifted up by less than 64 is a power of two.
 pub one-shifted : {b : ℕ} → b < 64 → 1 * 2 ^ b % 2 ^ 64 ≡ 2 ^ b
 one-shifted {b} h = ap (λ (n : ℕ). n % 2 ^ 64) (one-mul (2 ^ b)) ∙ mod-eq-of-lt (pow-lt h)

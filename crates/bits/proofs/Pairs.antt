@@ -2,18 +2,12 @@
 use mathlib.Core.Path.{_≡_, refl, sym, subst}
 use mathlib.Core.Bool.{cond}
 use Prim.Native.Nat.{ℕ, _+_, _-_, _*_, _/_, _≤_, _<_}
-use native.Mathlib.Nat.{mul-le-mul}
+use native.Mathlib.Nat.{mul-le-mul, mul-le-mul-right}
 use native.Mathlib.Omega.{arith}
 use borrow.Author.Tests.{ltb-false, leb-true, lt-ltb, le-ltb, le-leb, lt-leb}
 use lib.Dec.{ltb}
 use Rattle.octets.proofs.Cases.{split, chosen}
-use Rattle.bits.specs.Pairs.{leavesEight, pairsIn}
-
--- So many pairs can be read two at a time: they are among the numbers asked for, two numbers fit a window, and eight octets are left behind each.
-pub record Paired (octets from b count pairs : ℕ) : Type 0 where
-  pub few : 2 * pairs ≤ count
-  pub narrow : 1 ≤ pairs → b ≤ 28
-  pub inside : 1 ≤ pairs → (from + 2 * pairs * b) / 8 + 8 ≤ octets
+use Rattle.bits.specs.Pairs.{leavesEight, pairsIn, Paired, Foured}
 
 -- The bits of the numbers that are read in pairs are few enough to be counted.
 pub paired-bits : {paired b : ℕ} → paired ≤ 4294967296 → b ≤ 28 → paired * b ≤ 120259084288
@@ -78,3 +72,14 @@ module _ (octets from b count : ℕ) where
   -- What is counted can be read in pairs: the law that the callers cite of the answer they were given.
   pub pairs-paired : {pairs : ℕ} → pairs ≡ pairsIn octets from b count → Paired octets from b count pairs
   pairs-paired counted = subst (Paired octets from b count) (sym counted) all-paired
+
+-- Numbers of few bits that can be read two at a time can be read four at a time.
+pub paired-foured : (octets from b count pairs : ℕ) → b ≤ 14 → Paired octets from b count pairs → Foured octets from b count (pairs / 2)
+paired-foured octets from b count pairs narrow paired =
+    record {
+      few = omega (arith, paired .few);
+      narrow = narrow;
+      inside = λ some.
+          let fewer : 4 * (pairs / 2) ≤ 2 * pairs = omega arith in
+          omega (arith, paired .inside (omega arith), mul-le-mul-right b fewer);
+    }

@@ -1,8 +1,12 @@
--- RULES, "Section 7": how many numbers of a run are read two at a time, each pair in one window of eight octets. It is a matter of speed alone: the
--- numbers are the same.
-use Prim.Native.Nat.{ℕ, _+_, _-_, _*_, _/_}
+-- RULES, "Section 7": how many numbers of a run are read two or four at a time, each time in one window of eight octets. It is a matter of speed alone:
+-- the numbers are the same.
+use Prim.Native.Nat.{ℕ, _+_, _-_, _*_, _/_, _≤_}
+use mathlib.Core.Path.{_≡_}
 use mathlib.Core.Bool.{Bool, cond}
+use mathlib.Core.List.{List}
 use lib.Dec.{ltb, leb}
+use Rattle.bits.specs.Bits.{bitsAt}
+use Rattle.bits.specs.declared.Four.{Four}
 
 -- Behind so many pairs of numbers of b bits, which lie one behind the other from bit `from` on, eight octets are left.
 abbrev pub leavesEight : (octets from b pairs : ℕ) → Bool
@@ -15,3 +19,22 @@ pairsIn octets from b count =
     cond (ltb 28 b) 0
     (cond (leavesEight octets from b (count / 2)) (count / 2)
     (cond (leavesEight octets from b ((count - 64) / 2)) ((count - 64) / 2) 0))
+
+-- So many pairs can be read two at a time: they are among the numbers asked for, two numbers fit a window, and eight octets are left behind each.
+pub record Paired (octets from b count pairs : ℕ) : Type 0 where
+  pub few : 2 * pairs ≤ count
+  pub narrow : 1 ≤ pairs → b ≤ 28
+  pub inside : 1 ≤ pairs → (from + 2 * pairs * b) / 8 + 8 ≤ octets
+
+-- So many fours can be read four at a time, in the same way.
+pub record Foured (octets from b count fours : ℕ) : Type 0 where
+  pub few : 4 * fours ≤ count
+  pub narrow : b ≤ 14
+  pub inside : 1 ≤ fours → (from + 4 * fours * b) / 8 + 8 ≤ octets
+
+-- Four numbers of b bits, one behind the other from bit `at` on.
+pub record FourFound (run : List ℕ) (at b : ℕ) (four : Four) : Type 0 where
+  pub first : four .first ≡ bitsAt run at b
+  pub second : four .second ≡ bitsAt run (at + b) b
+  pub third : four .third ≡ bitsAt run (at + 2 * b) b
+  pub fourth : four .fourth ≡ bitsAt run (at + 3 * b) b

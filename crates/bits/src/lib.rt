@@ -4,13 +4,21 @@ ghost use Prim.Native.Nat.{_+_, _-_, _*_, _/_, _%_, _^_, _≤_, _<_};
 ghost use lib.ListN.{length};
 ghost use Rattle.octets.specs.Numbers.{octetAt, numberAt};
 ghost use Rattle.bits.specs.Bits.{bitAt, bitsAt, octetsOf};
-ghost use Rattle.bits.specs.Pairs.{pairsIn};
+ghost use Rattle.bits.specs.Pairs.{pairsIn, FourFound};
 use octets::BitPlace;
 
 // Two numbers that stand one behind the other.
 pub struct Pair {
     pub first: u32,
     pub second: u32,
+}
+
+// Four numbers that stand one behind the other.
+pub struct Four {
+    pub first: u32,
+    pub second: u32,
+    pub third: u32,
+    pub fourth: u32,
 }
 
 // A number with one octet more at its end.
@@ -99,18 +107,51 @@ pub fn read_bits(run: &[u8], at: BitPlace, b: u32) -> u32
     }
 }
 
+// The number of at most 56 bits from a place on, where eight octets are left: it stands in one window, and nothing is tested.
+pub fn read_wide(run: &[u8], at: BitPlace, b: u32) -> u64
+    requires { ⌜ (at .0 / 8 + 8 ≤ length (now run)) × (b ≤ 56) ⌝ }
+    ensures { λ r. ⌜ r ≡ bitsAt (now (run .entry)) (at .0) b ⌝ }
+{
+    let holding = octets::octet_holding(at);
+    let from = holding.0 - 1;
+    let past = (at.0 % 8) as u32;
+    cut(eight(run, from), past, b)
+}
+
 // Two numbers of b bits, one behind the other, where eight octets are left from the first on: both stand in one window, and nothing is tested.
 pub fn read_pair(run: &[u8], at: BitPlace, b: u32) -> Pair
     requires { ⌜ (at .0 / 8 + 8 ≤ length (now run)) × (b ≤ 28) ⌝ }
     ensures { λ r. ⌜ (r .first ≡ bitsAt (now (run .entry)) (at .0) b) × (r .second ≡ bitsAt (now (run .entry)) (at .0 + b) b) ⌝ }
 {
-    let holding = octets::octet_holding(at);
-    let from = holding.0 - 1;
-    let past = (at.0 % 8) as u32;
-    let both = cut(eight(run, from), past, 2 * b);
+    let both = read_wide(run, at, 2 * b);
     Pair {
         first: (both >> b) as u32,
         second: (both % (1u64 << b)) as u32,
+    }
+}
+
+// The lowest b bits of a number.
+fn lowest(number: u64, b: u32) -> u32
+    requires { ⌜ b ≤ 14 ⌝ }
+    ensures { λ r. ⌜ r ≡ number % 2 ^ b ⌝ }
+{
+    (number % (1u64 << b)) as u32
+}
+
+// Four numbers of b bits, one behind the other, where eight octets are left from the first on: all stand in one window, and nothing is tested.
+pub fn read_four(run: &[u8], at: BitPlace, b: u32) -> Four
+    requires { ⌜ (at .0 / 8 + 8 ≤ length (now run)) × (b ≤ 14) ⌝ }
+    ensures { λ r. ⌜ FourFound (now (run .entry)) (at .0) b r ⌝ }
+{
+    let holding = octets::octet_holding(at);
+    let from = holding.0 - 1;
+    let past = (at.0 % 8) as u32;
+    let window = eight(run, from) / 2 >> (63 - past - 4 * b);
+    Four {
+        first: lowest(window >> (3 * b), b),
+        second: lowest(window >> (2 * b), b),
+        third: lowest(window >> b, b),
+        fourth: lowest(window, b),
     }
 }
 

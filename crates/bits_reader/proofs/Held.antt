@@ -1,5 +1,5 @@
--- What the five proofs share: the facts of a reader, of its run, of a place, of a number and of what is read, how one is got from another, and the steps
--- of a walk.
+-- What the proofs of this crate share: the facts of a reader, of its run, of a place, of a number and of what is read, how one is got from another, and the
+-- steps of a walk.
 use mathlib.Core.Path.{_≡_, refl, sym, ap, subst}
 use Prim.Native.Nat.{ℕ, zero, _+_, _*_, _/_, _≤_, _<_, _^_}
 use mathlib.Core.List.{List, [], _∷_}
@@ -47,24 +47,33 @@ use denote.Triple.Walked.{Stays, AllGo, stay-none, goes-silent, fitsOf, Ending, 
 use Rattle.bits_reader.specs.declared.BitReader.{BitReader}
 use Rattle.bits_reader.specs.declared.Read.{Read}
 use Rattle.bits_reader.specs.declared.ReadPair.{ReadPair}
+use Rattle.bits_reader.specs.declared.ReadFour.{ReadFour}
 use Rattle.bits_reader.specs.declared.Taken.{Taken}
 use Rattle.bits_reader.specs.declared.TakenPair.{TakenPair}
+use Rattle.bits_reader.specs.declared.TakenFour.{TakenFour}
 use Rattle.octets.specs.declared.BitPlace.{BitPlace}
 use Rattle.bits.specs.declared.Pair.{Pair}
+use Rattle.bits.specs.declared.Four.{Four}
 use Rattle.bits_reader.proofs.BitReader as reader-type
 use Rattle.bits_reader.proofs.BitReader.Laws as reader-laws
 use Rattle.bits_reader.proofs.Read as read-type
 use Rattle.bits_reader.proofs.Read.Laws as read-laws
 use Rattle.bits_reader.proofs.ReadPair as read-pair-type
 use Rattle.bits_reader.proofs.ReadPair.Laws as read-pair-laws
+use Rattle.bits_reader.proofs.ReadFour as read-four-type
+use Rattle.bits_reader.proofs.ReadFour.Laws as read-four-laws
 use Rattle.bits_reader.proofs.Taken as taken-type
 use Rattle.bits_reader.proofs.Taken.Laws as taken-laws
 use Rattle.bits_reader.proofs.TakenPair as taken-pair-type
 use Rattle.bits_reader.proofs.TakenPair.Laws as taken-pair-laws
+use Rattle.bits_reader.proofs.TakenFour as taken-four-type
+use Rattle.bits_reader.proofs.TakenFour.Laws as taken-four-laws
 use Rattle.octets.proofs.BitPlace as place-type
 use Rattle.octets.proofs.BitPlace.Laws as place-laws
 use Rattle.bits.proofs.Pair as pair-type
 use Rattle.bits.proofs.Pair.Laws as pair-laws
+use Rattle.bits.proofs.Four as four-type
+use Rattle.bits.proofs.Four.Laws as four-laws
 
 -- The types that the signatures have, each with one lifetime in scope.
 abbrev at-lifetime : Lft → NamedLft
@@ -85,17 +94,26 @@ Bits = u32
 abbrev pub Two : RattleType
 Two = pair-type.the-row
 
+abbrev pub Fours : RattleType
+Fours = four-type.the-row
+
 abbrev pub ReadOne : Lft → RattleType
 ReadOne κ = read-type.the-row (at-lifetime κ)
 
 abbrev pub ReadTwo : Lft → RattleType
 ReadTwo κ = read-pair-type.the-row (at-lifetime κ)
 
+abbrev pub ReadFours : Lft → RattleType
+ReadFours κ = read-four-type.the-row (at-lifetime κ)
+
 abbrev pub TakenOne : RattleType
 TakenOne = taken-type.the-row
 
 abbrev pub TakenTwo : RattleType
 TakenTwo = taken-pair-type.the-row
+
+abbrev pub TakenFours : RattleType
+TakenFours = taken-four-type.the-row
 
 -- How the machine represents a value of each, and that it has no other representation.
 abbrev pub reader-vals : BitReader → List Val
@@ -110,17 +128,26 @@ bits-vals = uint-vals w32
 abbrev pub two-vals : Pair → List Val
 two-vals pair = pair-laws.lowered pair ∷ []
 
+abbrev pub four-vals : Four → List Val
+four-vals four = four-laws.lowered four ∷ []
+
 abbrev pub read-vals : Read → List Val
 read-vals read = read-laws.lowered read ∷ []
 
 abbrev pub read-pair-vals : ReadPair → List Val
 read-pair-vals read = read-pair-laws.lowered read ∷ []
 
+abbrev pub read-four-vals : ReadFour → List Val
+read-four-vals read = read-four-laws.lowered read ∷ []
+
 abbrev pub taken-vals : Taken → List Val
 taken-vals taken = taken-laws.lowered taken ∷ []
 
 abbrev pub taken-pair-vals : TakenPair → List Val
 taken-pair-vals taken = taken-pair-laws.lowered taken ∷ []
+
+abbrev pub taken-four-vals : TakenFour → List Val
+taken-four-vals taken = taken-four-laws.lowered taken ∷ []
 
 pub reader-tells : (κ : Lft) → Tells (Reader κ) (Is (Reader κ)) reader-vals
 reader-tells κ = LL.tells (reader-type.the-type (at-lifetime κ)) (reader-laws.the-laws (at-lifetime κ))
@@ -137,11 +164,17 @@ bits-tells = uint-tells w32
 pub two-tells : Tells Two (Is Two) two-vals
 two-tells = LL.tells pair-type.the-type pair-laws.the-laws
 
+pub four-tells : Tells Fours (Is Fours) four-vals
+four-tells = LL.tells four-type.the-type four-laws.the-laws
+
 pub read-tells : (κ : Lft) → Tells (ReadOne κ) (Is (ReadOne κ)) read-vals
 read-tells κ = LL.tells (read-type.the-type (at-lifetime κ)) (read-laws.the-laws (at-lifetime κ))
 
 pub read-pair-tells : (κ : Lft) → Tells (ReadTwo κ) (Is (ReadTwo κ)) read-pair-vals
 read-pair-tells κ = LL.tells (read-pair-type.the-type (at-lifetime κ)) (read-pair-laws.the-laws (at-lifetime κ))
+
+pub read-four-tells : (κ : Lft) → Tells (ReadFours κ) (Is (ReadFours κ)) read-four-vals
+read-four-tells κ = LL.tells (read-four-type.the-type (at-lifetime κ)) (read-four-laws.the-laws (at-lifetime κ))
 
 -- What each type promises of a value.
 abbrev pub IsReader : Lft → BitReader → Type 0
@@ -159,11 +192,17 @@ IsBits b = Is Bits b (bits-vals b)
 abbrev pub IsTwo : Pair → Type 0
 IsTwo pair = Is Two pair (two-vals pair)
 
+abbrev pub IsFour : Four → Type 0
+IsFour four = Is Fours four (four-vals four)
+
 abbrev pub IsRead : Lft → Read → Type 0
 IsRead κ read = Is (ReadOne κ) read (read-vals read)
 
 abbrev pub IsReadPair : Lft → ReadPair → Type 0
 IsReadPair κ read = Is (ReadTwo κ) read (read-pair-vals read)
+
+abbrev pub IsReadFour : Lft → ReadFour → Type 0
+IsReadFour κ read = Is (ReadFours κ) read (read-four-vals read)
 
 abbrev pub IsTaken : Taken → Type 0
 IsTaken taken = Is TakenOne taken (taken-vals taken)
@@ -171,12 +210,18 @@ IsTaken taken = Is TakenOne taken (taken-vals taken)
 abbrev pub IsTakenPair : TakenPair → Type 0
 IsTakenPair taken = Is TakenTwo taken (taken-pair-vals taken)
 
--- What the functions that read require of a place and a count of bits; and of a run too, where they read a pair.
+abbrev pub IsTakenFour : TakenFour → Type 0
+IsTakenFour taken = Is TakenFours taken (taken-four-vals taken)
+
+-- What the functions that read require of a place and a count of bits; and of a run too, where they read two or four numbers.
 abbrev pub Required : BitPlace → ℕ → Type 0
 Required place b = (place .0 + b < 2 ^ 64) × (b ≤ 32)
 
 abbrev pub TwoRequired : RefT (List ℕ) → BitPlace → ℕ → Type 0
 TwoRequired run place b = (place .0 / 8 + 8 ≤ length (now run)) × (b ≤ 28) × (place .0 + 2 * b < 2 ^ 64)
+
+abbrev pub FourRequired : RefT (List ℕ) → BitPlace → ℕ → Type 0
+FourRequired run place b = (place .0 / 8 + 8 ≤ length (now run)) × (b ≤ 14) × (place .0 + 4 * b < 2 ^ 64)
 
 module _ (κ : Lft) where
   abbrev type : Declared
@@ -196,6 +241,12 @@ module _ (κ : Lft) where
 
   abbrev two-laws : LL.Laws two-type
   two-laws = read-pair-laws.the-laws (at-lifetime κ)
+
+  abbrev of-four-type : Declared
+  of-four-type = read-four-type.the-type (at-lifetime κ)
+
+  abbrev of-four-laws : LL.Laws of-four-type
+  of-four-laws = read-four-laws.the-laws (at-lifetime κ)
 
   -- A reader promises what its run and its place promise.
   pub run-known : (reader : BitReader) → IsReader κ reader → IsRun κ (reader .run)
@@ -226,11 +277,32 @@ module _ (κ : Lft) where
   pub read-pair-known : (read : ReadPair) → IsTwo (read .pair) → IsReader κ (read .reader) → IsReadPair κ read
   read-pair-known read is-pair is-reader = LL.owes two-type two-laws read (is-pair, (is-reader, tt))
 
+  pub four-known : (read : ReadFour) → IsReadFour κ read → IsFour (read .four)
+  four-known read is = LL.owed of-four-type of-four-laws read (read-four-vals read) is .0
+
+  pub behind-four-known : (read : ReadFour) → IsReadFour κ read → IsPlace (read .reader .at)
+  behind-four-known read is = place-known (read .reader) (LL.owed of-four-type of-four-laws read (read-four-vals read) is .1 .0)
+
+  pub read-four-known : (read : ReadFour) → IsFour (read .four) → IsReader κ (read .reader) → IsReadFour κ read
+  read-four-known read is-four is-reader = LL.owes of-four-type of-four-laws read (is-four, (is-reader, tt))
+
 pub first-known : (pair : Pair) → IsTwo pair → IsBits (pair .first)
 first-known pair is = LL.owed pair-type.the-type pair-laws.the-laws pair (two-vals pair) is .0
 
 pub second-known : (pair : Pair) → IsTwo pair → IsBits (pair .second)
 second-known pair is = LL.owed pair-type.the-type pair-laws.the-laws pair (two-vals pair) is .1 .0
+
+-- Four numbers promise what each of them promises.
+pub record FourKnown (four : Four) : Type 0 where
+  pub first : IsBits (four .first)
+  pub second : IsBits (four .second)
+  pub third : IsBits (four .third)
+  pub fourth : IsBits (four .fourth)
+
+pub numbers-known : (four : Four) → IsFour four → FourKnown four
+numbers-known four is =
+    let each = LL.owed four-type.the-type four-laws.the-laws four (four-vals four) is in
+    record { first = each .0; second = each .1 .0; third = each .1 .1 .0; fourth = each .1 .1 .1 .0 }
 
 pub taken-known : (taken : Taken) → IsBits (taken .number) → IsPlace (taken .next) → IsTaken taken
 taken-known taken is-number is-next = LL.owes taken-type.the-type taken-laws.the-laws taken (is-number, (is-next, tt))
@@ -238,6 +310,15 @@ taken-known taken is-number is-next = LL.owes taken-type.the-type taken-laws.the
 pub taken-pair-known : (taken : TakenPair) → IsBits (taken .first) → IsBits (taken .second) → IsPlace (taken .next) → IsTakenPair taken
 taken-pair-known taken is-first is-second is-next =
     LL.owes taken-pair-type.the-type taken-pair-laws.the-laws taken (is-first, (is-second, (is-next, tt)))
+
+-- Four numbers and a place, as they are taken.
+abbrev pub taken-four : Four → BitPlace → TakenFour
+taken-four four next = record { first = four .first; second = four .second; third = four .third; fourth = four .fourth; next = next }
+
+pub taken-four-known : (four : Four) (next : BitPlace) → FourKnown four → IsPlace next → IsTakenFour (taken-four four next)
+taken-four-known four next is is-next =
+    LL.owes taken-four-type.the-type taken-four-laws.the-laws (taken-four four next)
+    (is .first, (is .second, (is .third, (is .fourth, (is-next, tt)))))
 
 -- A value that keeps the promise may be stored in a local of its type. The local of a type with a reference in it names a lifetime ℓ of its own.
 module _ {M : Type 1} {𝓤 : URA M} {H : Heap 𝓤} {A : Atoms 𝓤} (W : Given 𝓤 H A) where
@@ -256,6 +337,11 @@ module _ {M : Type 1} {𝓤 : URA M} {H : Heap 𝓤} {A : Atoms 𝓤} (W : Given
       let α : NamedLft = record { mir = ℓ; lft = κ } in
       LL.lawful (read-pair-type.the-type α) (read-pair-laws.the-laws α) 𝓤 H A W .typed read (read-pair-vals read) is
 
+  pub read-four-typed : (ℓ : Lifetime) (κ : Lft) (read : ReadFour) → IsReadFour κ read → Typed (read-four-laws.mir ℓ ∷ []) (read-four-vals read)
+  read-four-typed ℓ κ read is =
+      let α : NamedLft = record { mir = ℓ; lft = κ } in
+      LL.lawful (read-four-type.the-type α) (read-four-laws.the-laws α) 𝓤 H A W .typed read (read-four-vals read) is
+
   pub run-typed : (ℓ : Lifetime) (κ : Lft) (run : RefT (List ℕ)) → IsRun κ run → Typed (ShrSlice ℓ κ u8 .mir) (slice-vals run)
   run-typed ℓ κ run is = shr-slice-lawful 𝓤 H A W ℓ κ u8 .typed run (slice-vals run) is
 
@@ -268,11 +354,17 @@ module _ {M : Type 1} {𝓤 : URA M} {H : Heap 𝓤} {A : Atoms 𝓤} (W : Given
   pub pair-typed : (pair : Pair) → IsTwo pair → Typed (Two .mir) (two-vals pair)
   pair-typed pair is = LL.lawful pair-type.the-type pair-laws.the-laws 𝓤 H A W .typed pair (two-vals pair) is
 
+  pub four-typed : (four : Four) → IsFour four → Typed (Fours .mir) (four-vals four)
+  four-typed four is = LL.lawful four-type.the-type four-laws.the-laws 𝓤 H A W .typed four (four-vals four) is
+
   pub taken-typed : (taken : Taken) → IsTaken taken → Typed (TakenOne .mir) (taken-vals taken)
   taken-typed taken is = LL.lawful taken-type.the-type taken-laws.the-laws 𝓤 H A W .typed taken (taken-vals taken) is
 
   pub taken-pair-typed : (taken : TakenPair) → IsTakenPair taken → Typed (TakenTwo .mir) (taken-pair-vals taken)
   taken-pair-typed taken is = LL.lawful taken-pair-type.the-type taken-pair-laws.the-laws 𝓤 H A W .typed taken (taken-pair-vals taken) is
+
+  pub taken-four-typed : (taken : TakenFour) → IsTakenFour taken → Typed (TakenFours .mir) (taken-four-vals taken)
+  taken-four-typed taken is = LL.lawful taken-four-type.the-type taken-four-laws.the-laws 𝓤 H A W .typed taken (taken-four-vals taken) is
 
 -- What a reader owns, what a run and what was read own, and the lifetime's token.
 abbrev pub reader-own : Lft → BitReader → Fml
@@ -286,6 +378,9 @@ read-own κ read = ReadOne κ .own read (read-vals read)
 
 abbrev pub read-pair-own : Lft → ReadPair → Fml
 read-pair-own κ read = ReadTwo κ .own read (read-pair-vals read)
+
+abbrev pub read-four-own : Lft → ReadFour → Fml
+read-four-own κ read = ReadFours κ .own read (read-four-vals read)
 
 abbrev pub token : {M : Type 1} {𝓤 : URA M} → Lft → Share → Item 𝓤
 token κ q = ‵ (flft κ q) ⊛ ‵ ftrue
@@ -301,12 +396,19 @@ module _ {M : Type 1} {𝓤 : URA M} {H : Heap 𝓤} {A : Atoms 𝓤} {K : Type 
   pub have-pair : K → (pair : Pair) → IsTwo pair → Step K W (‵ (Two .own pair (two-vals pair)) ∷ Γ) G Γ G
   have-pair t pair is = owned t Two (Is Two) (LL.makes pair-type.the-type pair-laws.the-plain 𝓤 H A) pair (two-vals pair) is
 
+  pub have-four : K → (four : Four) → IsFour four → Step K W (‵ (Fours .own four (four-vals four)) ∷ Γ) G Γ G
+  have-four t four is = owned t Fours (Is Fours) (LL.makes four-type.the-type four-laws.the-plain 𝓤 H A) four (four-vals four) is
+
   pub have-taken : K → (taken : Taken) → IsTaken taken → Step K W (‵ (TakenOne .own taken (taken-vals taken)) ∷ Γ) G Γ G
   have-taken t taken is = owned t TakenOne (Is TakenOne) (LL.makes taken-type.the-type taken-laws.the-plain 𝓤 H A) taken (taken-vals taken) is
 
   pub have-taken-pair : K → (taken : TakenPair) → IsTakenPair taken → Step K W (‵ (TakenTwo .own taken (taken-pair-vals taken)) ∷ Γ) G Γ G
   have-taken-pair t taken is =
       owned t TakenTwo (Is TakenTwo) (LL.makes taken-pair-type.the-type taken-pair-laws.the-plain 𝓤 H A) taken (taken-pair-vals taken) is
+
+  pub have-taken-four : K → (taken : TakenFour) → IsTakenFour taken → Step K W (‵ (TakenFours .own taken (taken-four-vals taken)) ∷ Γ) G Γ G
+  have-taken-four t taken is =
+      owned t TakenFours (Is TakenFours) (LL.makes taken-four-type.the-type taken-four-laws.the-plain 𝓤 H A) taken (taken-four-vals taken) is
 
 module _ {M : Type 1} {𝓤 : URA M} {H : Heap 𝓤} {A : Atoms 𝓤} {K : Type 0} {W : Given 𝓤 H A} {Γ : List (Item 𝓤)} {G : Goal 𝓤 H} where
   -- A run is a shared borrow, so it may be copied, and with it a reader.
@@ -334,7 +436,7 @@ module _ {M : Type 1} {𝓤 : URA M} {H : Heap 𝓤} {A : Atoms 𝓤} {K : Type 
   reader-at t κ run place is = step (λ s. nothing t $ have-place t place is $ fjoin t $ move t (1 ∷ 0 ∷ []) $ fjoin t $
       use1 W (‵ (reader-own κ (record { run = run; at = place }))) (own-shut 𝓤 H A W (type κ) (laws κ) (run, (place, tt))) $ s)
 
-  -- A number or a pair, and the reader behind it, make what was read.
+  -- A number, a pair or four numbers, and the reader behind them, make what was read.
   pub read-of : K → (κ : Lft) (read : Read) → IsBits (read .number) → Step K W (‵ (read-own κ read) ∷ Γ) G (‵ (reader-own κ (read .reader)) ∷ Γ) G
   read-of t κ read is = step (λ s. nothing t $ move t (1 ∷ 0 ∷ []) $ fjoin t $ have-bits t (read .number) is $ fjoin t $
       use1 W (‵ (read-own κ read)) (own-shut 𝓤 H A W (one-type κ) (one-laws κ) (read .number, (read .reader, tt))) $ s)
@@ -343,6 +445,11 @@ module _ {M : Type 1} {𝓤 : URA M} {H : Heap 𝓤} {A : Atoms 𝓤} {K : Type 
       → Step K W (‵ (read-pair-own κ read) ∷ Γ) G (‵ (reader-own κ (read .reader)) ∷ Γ) G
   read-pair-of t κ read is = step (λ s. nothing t $ move t (1 ∷ 0 ∷ []) $ fjoin t $ have-pair t (read .pair) is $ fjoin t $
       use1 W (‵ (read-pair-own κ read)) (own-shut 𝓤 H A W (two-type κ) (two-laws κ) (read .pair, (read .reader, tt))) $ s)
+
+  pub read-four-of : K → (κ : Lft) (read : ReadFour) → IsFour (read .four)
+      → Step K W (‵ (read-four-own κ read) ∷ Γ) G (‵ (reader-own κ (read .reader)) ∷ Γ) G
+  read-four-of t κ read is = step (λ s. nothing t $ move t (1 ∷ 0 ∷ []) $ fjoin t $ have-four t (read .four) is $ fjoin t $
+      use1 W (‵ (read-four-own κ read)) (own-shut 𝓤 H A W (of-four-type κ) (of-four-laws κ) (read .four, (read .reader, tt))) $ s)
 
 -- The contract that a caller has of a function.
 abbrev Callee : {M : Type 1} (𝓤 : URA M) (H : Heap 𝓤) (A : Atoms 𝓤) (T : Ended) → Clauses 𝓤 T → Contract 𝓤

@@ -4,7 +4,8 @@ ghost use mathlib.Core.Path.{_≡_};
 ghost use Prim.Native.Nat.{_+_, _*_, _/_, _≤_, _<_, _^_};
 ghost use lib.ListN.{length};
 ghost use Rattle.bits.specs.Bits.{bitsAt};
-ghost use Rattle.bits_reader.specs.Reading.{NumberFound, PairFound, PairTaken};
+ghost use Rattle.bits_reader.specs.Reading.{NumberFound, PairFound, PairTaken, FourRead, FourTaken};
+use bits::Four;
 use bits::Pair;
 use octets::BitPlace;
 
@@ -25,6 +26,12 @@ pub struct ReadPair<'a> {
     pub reader: BitReader<'a>,
 }
 
+// Four numbers that were read, and the reader behind them.
+pub struct ReadFour<'a> {
+    pub four: Four,
+    pub reader: BitReader<'a>,
+}
+
 // A number that was taken, and the place behind it.
 pub struct Taken {
     pub number: u32,
@@ -35,6 +42,15 @@ pub struct Taken {
 pub struct TakenPair {
     pub first: u32,
     pub second: u32,
+    pub next: BitPlace,
+}
+
+// Four numbers that were taken, and the place behind them.
+pub struct TakenFour {
+    pub first: u32,
+    pub second: u32,
+    pub third: u32,
+    pub fourth: u32,
     pub next: BitPlace,
 }
 
@@ -76,6 +92,22 @@ pub fn next_pair<'a>(reader: BitReader<'a>, b: u32) -> ReadPair<'a>
     }
 }
 
+// The four numbers of b bits where the reader stands, where eight octets are left, and the reader behind them.
+pub fn next_four<'a>(reader: BitReader<'a>, b: u32) -> ReadFour<'a>
+    requires { ⌜ (reader .at .0 / 8 + 8 ≤ length (now (reader .run))) × (b ≤ 14) × (reader .at .0 + 4 * b < 2 ^ 64) ⌝ }
+    ensures { λ r. ⌜ FourRead (reader .entry) b r ⌝ }
+{
+    let run = reader.run;
+    let at = reader.at;
+    ReadFour {
+        four: bits::read_four(run, at, b),
+        reader: BitReader {
+            run,
+            at: bits::after(bits::after(bits::after(bits::after(at, b), b), b), b),
+        },
+    }
+}
+
 // The number of b bits at a place of a run, and the place behind it, by way of a reader. Its contract names no reader, so whoever calls it, in a
 // loop too, needs no walk.
 pub fn take(run: &[u8], at: BitPlace, b: u32) -> Taken
@@ -98,6 +130,21 @@ pub fn take_pair(run: &[u8], at: BitPlace, b: u32) -> TakenPair
     TakenPair {
         first: read.pair.first,
         second: read.pair.second,
+        next: read.reader.at,
+    }
+}
+
+// The four numbers of b bits at a place of a run in which eight octets are left, and the place behind them, by way of a reader.
+pub fn take_four(run: &[u8], at: BitPlace, b: u32) -> TakenFour
+    requires { ⌜ (at .0 / 8 + 8 ≤ length (now run)) × (b ≤ 14) × (at .0 + 4 * b < 2 ^ 64) ⌝ }
+    ensures { λ r. ⌜ FourTaken (now (run .entry)) (at .0) b r ⌝ }
+{
+    let read = next_four(new(run, at), b);
+    TakenFour {
+        first: read.four.first,
+        second: read.four.second,
+        third: read.four.third,
+        fourth: read.four.fourth,
         next: read.reader.at,
     }
 }

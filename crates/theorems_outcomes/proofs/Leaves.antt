@@ -57,8 +57,16 @@ bits-bit-in _ 𝓤 _ _ _ _ _ _ _ _ _ _ _ _ = one 𝓤 (λ p q. (alike p q, refl)
 pub bits-read-bits : Determined bits.read_bits.ended (λ _. bits.read_bits.clauses)
 bits-read-bits _ 𝓤 _ _ _ _ _ _ _ _ _ _ _ _ = one 𝓤 (λ p q. (alike p q, refl))
 
+pub bits-read-wide : Determined bits.read_wide.ended (λ _. bits.read_wide.clauses)
+bits-read-wide _ 𝓤 _ _ _ _ _ _ _ _ _ _ _ _ = one 𝓤 (λ p q. (alike p q, refl))
+
 pub bits-read-pair : Determined bits.read_pair.ended (λ _. bits.read_pair.clauses)
 bits-read-pair _ 𝓤 _ _ _ _ _ _ _ _ _ _ _ _ = one 𝓤 (λ p q. (λ i. record { first = alike (p .0) (q .0) i; second = alike (p .1) (q .1) i }, refl))
+
+pub bits-read-four : Determined bits.read_four.ended (λ _. bits.read_four.clauses)
+bits-read-four _ 𝓤 _ _ _ _ _ _ _ _ _ _ _ _ =
+    one 𝓤 (λ p q.
+    (λ i. record { first = alike (p .first) (q .first) i; second = alike (p .second) (q .second) i; third = alike (p .third) (q .third) i; fourth = alike (p .fourth) (q .fourth) i }, refl))
 
 pub bits-pairs-in : Determined bits.pairs_in.ended (λ _. bits.pairs_in.clauses)
 bits-pairs-in _ 𝓤 _ _ _ _ _ _ _ _ _ _ _ _ = one 𝓤 (λ p q. (alike p q, refl))
@@ -103,6 +111,29 @@ bits-reader-take _ 𝓤 _ _ _ _ _ _ _ _ _ _ _ _ = one 𝓤 (λ p q. (λ i. recor
 pub bits-reader-take-pair : Determined bits-reader.take_pair.ended (λ _. bits-reader.take_pair.clauses)
 bits-reader-take-pair _ 𝓤 _ _ _ _ _ _ _ _ _ _ _ _ =
     one 𝓤 (λ p q. (λ i. record { first = alike (p .0) (q .0) i; second = alike (p .1) (q .1) i; next = record { 0 = alike (p .2) (q .2) i } }, refl))
+
+pub bits-reader-next-four : Determined bits-reader.next_four.ended (λ _. bits-reader.next_four.clauses)
+bits-reader-next-four _ 𝓤 _ _ _ _ _ _ _ _ _ _ _ _ =
+    one 𝓤 (λ p q. (
+      λ i. record {
+        four = record { first = alike (p .first) (q .first) i; second = alike (p .second) (q .second) i; third = alike (p .third) (q .third) i; fourth = alike (p .fourth) (q .fourth) i };
+        reader = record { run = alike (p .sameRun) (q .sameRun) i; at = record { 0 = alike (p .behind) (q .behind) i } };
+      },
+      refl,
+    ))
+
+pub bits-reader-take-four : Determined bits-reader.take_four.ended (λ _. bits-reader.take_four.clauses)
+bits-reader-take-four _ 𝓤 _ _ _ _ _ _ _ _ _ _ _ _ =
+    one 𝓤 (λ p q. (
+      λ i. record {
+        first = alike (p .first) (q .first) i;
+        second = alike (p .second) (q .second) i;
+        third = alike (p .third) (q .third) i;
+        fourth = alike (p .fourth) (q .fourth) i;
+        next = record { 0 = alike (p .next) (q .next) i };
+      },
+      refl,
+    ))
 
 -- Numbers and codes of refusals.
 pub refusals-number-of : Determined refusals.number_of.ended (λ _. refusals.number_of.clauses)

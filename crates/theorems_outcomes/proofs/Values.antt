@@ -25,27 +25,27 @@ values-points-write-next _ 𝓤 _ _ _ _ _ _ _ _ _ _ _ _ =
 pub values-points-present-until : Determined values-points.present_until.ended (λ _. values-points.present_until.clauses)
 values-points-present-until _ 𝓤 _ _ _ _ _ _ _ _ _ _ _ _ = one 𝓤 (λ p q. (until-determined p q, refl))
 
+pub values-points-write-all : Determined values-points.write_all.ended (λ _. values-points.write_all.clauses)
+values-points-write-all _ 𝓤 _ _ _ _ _ _ _ _ _ _ _ _ =
+    one 𝓤 (λ p q. let same = written-determined p q in (refl, λ i. (tt, (tt, (same .1 i .doubles, (same .1 i .marks, (tt, tt)))))))
+
+pub values-points-write-marked : Determined values-points.write_marked.ended (λ _. values-points.write_marked.clauses)
+values-points-write-marked _ 𝓤 _ _ _ _ _ _ _ _ _ _ _ _ =
+    one 𝓤 (λ p q. let same = written-determined p q in (same .0, λ i. (tt, (tt, (tt, (same .1 i .doubles, (same .1 i .marks, (tt, tt))))))))
+
 -- Where integers are kept, the last two of them are told.
 kept-determined : {worked : declared.Worked} {x y before earlier : ℕ} → worked ≡ Worked.Kept x before → worked ≡ Worked.Kept y earlier → (x ≡ y) × (before ≡ earlier)
 kept-determined p q = (cc, cc)
 
--- What the integers of a group lead to leaves nothing open, and neither does the relation of what is written.
+-- What the integers of a group lead to leaves nothing open, and neither does what a block of them holds.
 pub values-group-judge : Determined values-group.judge.ended (λ _. values-group.judge.clauses)
 values-group-judge _ 𝓤 _ _ _ _ _ _ _ _ _ _ _ _ = one 𝓤 (λ p q. (alike p q, refl))
 
-pub values-group-fill-all : Determined values-group.fill_all.ended (λ _. values-group.fill_all.clauses)
-values-group-fill-all _ 𝓤 _ _ _ _ _ _ _ _ _ _ _ _ =
+pub values-group-unpack : Determined values-group.unpack.ended (λ _. values-group.unpack.clauses)
+values-group-unpack _ 𝓤 _ _ _ _ _ _ _ _ _ _ _ _ =
     two 𝓤 (λ p q.
     let kept = kept-determined (p .0) (q .0) in
-    let same = written-determined (p .1) (q .1) in
-    (λ i. record { x = kept .0 i; before = kept .1 i; point = same .0 i }, λ i. (tt, (tt, (tt, (same .1 i .doubles, (same .1 i .marks, (tt, tt))))))))
-
-pub values-group-fill-marked : Determined values-group.fill_marked.ended (λ _. values-group.fill_marked.clauses)
-values-group-fill-marked _ 𝓤 _ _ _ _ _ _ _ _ _ _ _ _ =
-    two 𝓤 (λ p q.
-    let kept = kept-determined (p .0) (q .0) in
-    let same = written-determined (p .1) (q .1) in
-    (λ i. record { x = kept .0 i; before = kept .1 i; point = same .0 i }, λ i. (tt, (tt, (tt, (tt, (same .1 i .doubles, (same .1 i .marks, (tt, tt)))))))))
+    (λ i. record { x = kept .0 i; before = kept .1 i }, λ i. (tt, (tt, (tt, (alike (p .1) (q .1) i, (tt, tt)))))))
 
 -- Both runs of a field in simple packing.
 pub values-simple-fill-all : Determined values-simple.fill_all.ended (λ _. values-simple.fill_all.clauses)

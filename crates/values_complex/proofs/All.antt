@@ -14,7 +14,7 @@ use Rattle.doubles.specs.Doubles.{rebuilt}
 use Rattle.values_points.specs.Points.{doubleAt}
 use Rattle.values_points.specs.Written.{everyPoint, Runs, runs, Written, Filled}
 use Rattle.values_points.proofs.Laws.{written-none, written-present}
-use Rattle.values_group.specs.declared.Reached.{Reached}
+use Rattle.values_complex.specs.declared.Reached.{Reached}
 use Rattle.values_integers.specs.Integers.{areInRange}
 use Rattle.section_7.specs.declared.Groups.{Groups}
 use Rattle.values_complex.specs.declared.Start.{Start}

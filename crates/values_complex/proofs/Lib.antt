@@ -3,5 +3,6 @@ pub mod Bounds
 pub mod Joined
 pub mod Passed
 mod Turns
+mod Blocks
 mod All
 mod Marked

@@ -18,7 +18,7 @@ use Rattle.values_points.specs.Points.{doubleAt}
 use Rattle.values_points.specs.Written.{Marks, onesOf, Runs, Cleared, Written, Filled}
 use Rattle.values_points.proofs.Laws.{rank-mono}
 use Rattle.values_points.proofs.Missing.{cleared-filled}
-use Rattle.values_group.specs.declared.Reached.{Reached}
+use Rattle.values_complex.specs.declared.Reached.{Reached}
 use Rattle.values_integers.specs.Integers.{areInRange}
 use Rattle.section_7.specs.declared.Groups.{Groups}
 use Rattle.values_complex.specs.declared.Start.{Start}

@@ -13,15 +13,15 @@ use Rattle.octets.specs.Places.{firstBit}
 use Rattle.doubles.specs.declared.Packing.{Packing}
 use Rattle.values_points.specs.Points.{doubleAt}
 use Rattle.section_7.specs.Packing.{valuesBefore, bitsBefore}
-use Rattle.values_group.specs.declared.Reached.{Reached}
+use Rattle.values_complex.specs.declared.Reached.{Reached}
 use Rattle.values_group.specs.declared.Worked.the-variants as Worked
-use Rattle.values_group.specs.Group.{workedBy, isKept, integerFrom, GroupWritten}
+use Rattle.values_group.specs.Group.{workedBy, isKept, integerFrom}
 use Rattle.values_points.specs.Written.{Marks, Runs, Written}
 use Rattle.values_points.proofs.Laws.{written-field}
 use Rattle.values_integers.specs.Integers.{integer, areInRange}
 use Rattle.section_7.specs.declared.Groups.{Groups}
 use Rattle.values_complex.specs.declared.Start.{Start}
-use Rattle.values_complex.specs.Complex.{startOf, groupAt, valuesIn, integerIn, sizeIn, Sound}
+use Rattle.values_complex.specs.Complex.{startOf, groupAt, valuesIn, integerIn, sizeIn, Sound, GroupWritten}
 use Rattle.values_complex.proofs.Joined.{workedIn, group-passed, group-ends, group-field, two-kept, range-kept, next-start}
 
 module _ (run : List ℕ) (g : Groups) where
@@ -51,7 +51,7 @@ module _ (run : List ℕ) (g : Groups) where
       pub passed-more : i < g .grouping .groups → ((j : ℕ) → m .rank (j + 1) ≡ m .rank j + m .mark j) → {later : Reached} {next : Start} {c : Runs} →
           next ≡ startOf run g (i + 1) →
           workedBy run (groupAt run g i) (Worked.Kept (reached .x) (reached .before)) (groupAt run g i .count) ≡ Worked.Kept (later .x) (later .before) →
-          GroupWritten m p run (groupAt run g i) (groupAt run g i .count) reached later b c → Passed m p a (i + 1) later next c
+          GroupWritten m p run (groupAt run g i) reached later b c → Passed m p a (i + 1) later next c
       passed-more h more {later} {next} {c} begins worked written =
           let w = written .past in
           let kept : workedIn run g (workedBefore (i + 1)) ≡ Worked.Kept (later .x) (later .before) = sym (group-passed run g i h) ∙ ap (λ v. workedBy run (groupAt run g i) v (groupAt run g i .count)) (s .kept) ∙ worked in

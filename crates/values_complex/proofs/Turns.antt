@@ -8,7 +8,7 @@ use lib.ListN.{length}
 use Rattle.doubles.specs.declared.Packing.{Packing}
 use Rattle.values_group.specs.Group.{Limits, workedBy}
 use Rattle.values_group.specs.declared.Group.{Group}
-use Rattle.values_group.specs.declared.Reached.{Reached}
+use Rattle.values_complex.specs.declared.Reached.{Reached}
 use Rattle.values_group.specs.declared.Worked as declared
 use Rattle.values_group.specs.declared.Worked.the-variants as Worked
 use Rattle.values_integers.proofs.Joined.{worked-sound}

@@ -8,10 +8,15 @@ use lib.IntN.{ℤ, natAbs}
 use Rattle.octets.specs.Places.{firstBit}
 use Rattle.section_7_layout.specs.Runs.{layoutOf, widthOf, lengthOf, Limited}
 use Rattle.section_7.specs.Packing.{valuesBefore, bitsBefore, areSound}
+use Rattle.doubles.specs.declared.Packing.{Packing}
+use Rattle.values_points.specs.Written.{Marks, Runs, Written}
 use Rattle.values_group.specs.declared.Group.{Group}
+use Rattle.values_group.specs.declared.Latest.{Latest}
+use Rattle.values_group.specs.Group.{integersOf}
 use Rattle.values_integers.specs.Integers.{referenceOf, storedAt, integer, areInRange}
 use Rattle.values_integers.specs.Worked.{raisedBy, loweredBy}
 use Rattle.section_7.specs.declared.Groups.{Groups}
+use Rattle.values_complex.specs.declared.Reached.{Reached}
 use Rattle.values_complex.specs.declared.Start.{Start}
 
 -- Where the groups are known by their section's octets: all values in them, and the integer X of value m.
@@ -63,3 +68,12 @@ pub record Sound (run : List ℕ) (g : Groups) : Type 0 where
   pub twoValues : 2 ≤ valuesIn run g
   pub fewValues : valuesIn run g ≤ 16777216
   pub zminFits : g .differencing .zmin .size < 2 ^ 31
+
+-- The last two integers of how far the writing has come.
+abbrev pub latestOf : Reached → Latest
+latestOf r = record { x = r .x; before = r .before }
+
+-- All integers of the group, behind the two last ones, are written to the points from the next one on, up to where the writing has come then.
+abbrev pub GroupWritten : Marks → Packing → List ℕ → Group → Reached → Reached → Runs → Runs → Type 0
+GroupWritten m p run g from to before after =
+    Written m p (integersOf run g (latestOf from)) (g .count) (from .point) (to .point) before after

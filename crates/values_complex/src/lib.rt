@@ -1,19 +1,22 @@
 // Complex packing with second differences (5.3): the groups of a field one after the other, judged in a first pass that writes nothing, and
 // written in a second one.
 ghost use mathlib.Core.Path.{_≡_};
-ghost use Prim.Native.Nat.{_+_, _<_};
+ghost use mathlib.Core.Bool.{cond};
+ghost use Prim.Native.Nat.{_+_, _≤_, _<_};
+ghost use lib.Dec.{ltb};
 ghost use lib.ListN.{length};
-ghost use Rattle.values_points.specs.Written.{everyPoint, onesOf, lent, left, Room, MarkedRoom, Filled};
+ghost use Rattle.values_points.specs.Written.{everyPoint, onesOf, lent, left, Room, MarkedRoom, PointsLeft, Filled};
+ghost use Rattle.values_group.specs.Group.{Limits, GroupKept, GroupGoes};
 ghost use Rattle.section_6.specs.Presence.{onesBefore};
 ghost use Rattle.values_integers.specs.Worked.{raisedBy, loweredBy};
 ghost use Rattle.values_integers.specs.Integers.{areInRange};
-ghost use Rattle.values_complex.specs.Complex.{skipped, startOf, groupAt, valuesIn, integerIn, sizeIn, AllInRange, Sound};
+ghost use Rattle.values_complex.specs.Complex.{skipped, startOf, groupAt, valuesIn, integerIn, sizeIn, AllInRange, Sound, latestOf, GroupWritten};
 use doubles::Packing;
 use octets::BitPlace;
 use octets::Signed;
 use section_7::Groups;
 use values_group::Group;
-use values_group::Reached;
+use values_group::Latest;
 use values_group::Worked;
 
 // Where a group starts: how many values stand before it, and the place of its first bit.
@@ -26,6 +29,13 @@ pub struct Start {
 pub struct Met {
     pub group: Group,
     pub next: Start,
+}
+
+// How far the writing has come: the last integer, the one before it, and the next point.
+pub struct Reached {
+    pub x: u64,
+    pub before: u64,
+    pub point: usize,
 }
 
 // What Zmin adds.
@@ -126,6 +136,87 @@ pub fn is_in_range(section: &[u8], groups: Groups) -> bool
     true
 }
 
+// The lesser of two numbers.
+fn least(a: u64, b: u64) -> u64
+    ensures { λ r. ⌜ r ≡ cond (ltb a b) a b ⌝ }
+{
+    if a < b { a } else { b }
+}
+
+// Writes the group's integers to as many points, all of which are present: a block of at most 64 at a time.
+fn write_group(
+    section: &[u8],
+    group: Group,
+    packing: Packing,
+    block: &mut [u32],
+    values: &mut [f64],
+    presence: &mut [u8],
+    reached: Reached,
+) -> Reached
+    requires { ⌜ (Limits group (reached .x) (reached .before)) × (GroupKept (now section) group (latestOf reached) (group .count)) ⌝ }
+    requires { ⌜ (Room (now values) (now presence)) × (reached .point + group .count ≤ length (now values)) × (length (now block) ≡ 64) ⌝ }
+    ensures { λ r. ⌜ GroupGoes (now (section .entry)) group (latestOf reached) (group .count) (latestOf r) ⌝ }
+    ensures { λ r. ⌜ GroupWritten everyPoint packing (now (section .entry)) group reached r
+        (lent values presence) (left values presence) ⌝ }
+{
+    let mut latest = Latest {
+        x: reached.x,
+        before: reached.before,
+    };
+    let mut point = reached.point;
+    let mut done: u64 = 0;
+    while done < group.count {
+        let n = least(group.count - done, 64) as usize;
+        latest = values_group::unpack(section, group, done, &mut block[0..n], latest);
+        values_points::write_all(packing, &block[0..n], values, presence, point);
+        point += n;
+        done += n as u64;
+    }
+    Reached {
+        x: latest.x,
+        before: latest.before,
+        point,
+    }
+}
+
+// Writes the group's integers to the next points that a bitmap has, and +0 to those missing before each: a block of at most 56 at a time, whose points one
+// window of the bitmap tells of.
+fn put_group(
+    section: &[u8],
+    bitmap: &[u8],
+    group: Group,
+    packing: Packing,
+    block: &mut [u32],
+    values: &mut [f64],
+    presence: &mut [u8],
+    reached: Reached,
+) -> Reached
+    requires { ⌜ (Limits group (reached .x) (reached .before)) × (GroupKept (now section) group (latestOf reached) (group .count)) ⌝ }
+    requires { ⌜ (MarkedRoom (now bitmap) (now values) (now presence)) × (PointsLeft (now bitmap) (reached .point) (group .count) (length (now values))) ⌝ }
+    requires { ⌜ length (now block) ≡ 64 ⌝ }
+    ensures { λ r. ⌜ GroupGoes (now (section .entry)) group (latestOf reached) (group .count) (latestOf r) ⌝ }
+    ensures { λ r. ⌜ GroupWritten (onesOf (now (bitmap .entry))) packing (now (section .entry)) group reached r
+        (lent values presence) (left values presence) ⌝ }
+{
+    let mut latest = Latest {
+        x: reached.x,
+        before: reached.before,
+    };
+    let mut point = reached.point;
+    let mut done: u64 = 0;
+    while done < group.count {
+        let n = least(group.count - done, 56) as usize;
+        latest = values_group::unpack(section, group, done, &mut block[0..n], latest);
+        point = values_points::write_marked(bitmap, packing, &block[0..n], values, presence, point);
+        done += n as u64;
+    }
+    Reached {
+        x: latest.x,
+        before: latest.before,
+        point,
+    }
+}
+
 // Fills the runs for a field whose points are all present.
 pub fn fill_all(
     section: &[u8],
@@ -152,16 +243,22 @@ pub fn fill_all(
         before: differencing.first as u64,
         point: 2,
     };
-    let first = octets::first_bit(layout.packed);
-    let mut start = Start {
-        values: 0,
-        bit: first,
-    };
+    let mut block = [0u32; 64];
+    let bit = octets::first_bit(layout.packed);
+    let mut start = Start { values: 0, bit };
     let mut i: u32 = 0;
     while i < grouping.groups {
         let met = group_at(section, groups, i, start);
         let group = met.group;
-        reached = values_group::fill_all(section, group, packing, values, presence, reached);
+        reached = write_group(
+            section,
+            group,
+            packing,
+            &mut block,
+            values,
+            presence,
+            reached,
+        );
         start = met.next;
         i += 1;
     }
@@ -187,23 +284,23 @@ pub fn fill_marked(
     let differencing = groups.differencing;
     let second = differencing.second;
     let one = values_points::write_next(bitmap, packing, differencing.first, values, presence, 0);
-    let two = values_points::write_next(bitmap, packing, second, values, presence, one);
-    let mut reached = Reached {
-        x: differencing.second as u64,
-        before: differencing.first as u64,
-        point: two,
-    };
+    let point = values_points::write_next(bitmap, packing, second, values, presence, one);
+    let x = differencing.second as u64;
+    let before = differencing.first as u64;
+    let mut reached = Reached { x, before, point };
+    let mut block = [0u32; 64];
     let bit = octets::first_bit(layout.packed);
     let mut start = Start { values: 0, bit };
     let mut i: u32 = 0;
     while i < grouping.groups {
         let met = group_at(section, groups, i, start);
         let group = met.group;
-        reached = values_group::fill_marked(
+        reached = put_group(
             section,
             bitmap,
             group,
             packing,
+            &mut block,
             values,
             presence,
             reached,

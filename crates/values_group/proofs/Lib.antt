@@ -1,4 +1,4 @@
--- The laws of one group: its integers one by one, a turn of the loops over them, and two at a time.
+-- The laws of one group: its integers one by one, a turn of the loops over them, and what is left behind some of them.
 pub mod Steps
 mod Turns
-mod Pairs
+pub mod Left

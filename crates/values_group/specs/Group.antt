@@ -1,15 +1,12 @@
 -- RULES, "Section 7": how the code works out the integers X of one group: in numbers without a sign, and only while each is in its range.
-use Prim.Native.Nat.{ℕ, zero, suc, _+_, _-_, _*_, _/_, _≤_}
+use Prim.Native.Nat.{ℕ, zero, suc, _+_, _-_, _*_, _/_, _%_, _^_, _≤_, _<_}
 use mathlib.Core.Path.{_≡_}
 use mathlib.Core.Bool.{Bool, true, false, cond}
 use mathlib.Core.List.{List}
-use lib.Dec.{ltb}
-use lib.ListN.{length}
+use lib.Dec.{ltb, leb}
 use Rattle.bits.specs.Bits.{bitsAt}
-use Rattle.doubles.specs.declared.Packing.{Packing}
-use Rattle.values_points.specs.Written.{Marks, Runs, Written}
 use Rattle.values_group.specs.declared.Group as declared
-use Rattle.values_group.specs.declared.Reached.{Reached}
+use Rattle.values_group.specs.declared.Latest.{Latest}
 use Rattle.values_group.specs.declared.Worked as declaredWorked
 use Rattle.values_group.specs.declared.Worked.the-variants as Worked
 
@@ -57,20 +54,47 @@ pub record Limits (g : declared.Group) (x before : ℕ) : Type 0 where
   pub ofLast : x ≤ mostX
   pub ofBefore : before ≤ mostX
 
--- Such sizes, and so many pairs of the group's numbers can be read two at a time: they are among its numbers, two fit a window, and eight octets are
--- left behind each.
-abbrev pub PairLimits : List ℕ → declared.Group → ℕ → ℕ → ℕ → Type 0
-PairLimits run g pairs x before =
-    (Limits g x before) × (2 * pairs ≤ g .count) × (g .width ≤ 28) × ((g .from .0 + 2 * pairs * g .width) / 8 + 8 ≤ length run)
+-- The first `count` integers of the group, behind two others, have been judged: all are in their range.
+abbrev pub GroupKept : List ℕ → declared.Group → Latest → ℕ → Type 0
+GroupKept run g from count = isKept (workedBy run g (Worked.Kept (from .x) (from .before)) count) ≡ true
 
--- The first `count` integers of the group, behind the two last ones, have been judged: all are in their range.
-abbrev pub GroupKept : List ℕ → declared.Group → ℕ → Reached → Type 0
-GroupKept run g count from = isKept (workedBy run g (Worked.Kept (from .x) (from .before)) count) ≡ true
+-- Behind these the last two integers are those of `to`.
+abbrev pub GroupGoes : List ℕ → declared.Group → Latest → ℕ → Latest → Type 0
+GroupGoes run g from count to = workedBy run g (Worked.Kept (from .x) (from .before)) count ≡ Worked.Kept (to .x) (to .before)
 
--- They are written to the points from the next one on, up to where the writing has come then.
-abbrev pub GroupWritten : Marks → Packing → List ℕ → declared.Group → ℕ → Reached → Reached → Runs → Runs → Type 0
-GroupWritten m p run g count from to before after =
-    Written m p (integerFrom run g (from .x) (from .before)) count (from .point) (to .point) before after
+-- The integers of the group behind two others, by their numbers.
+abbrev pub integersOf : List ℕ → declared.Group → Latest → ℕ → ℕ
+integersOf run g from = integerFrom run g (from .x) (from .before)
+
+-- What the recurrence adds to each packed number, where 2 ^ 64 counts as 0: the reference with what Zmin adds, less what Zmin takes away.
+abbrev pub Gains : (gain base lowered : ℕ) → Type 0
+Gains gain base lowered = (base ≤ 8589934592) × (lowered ≤ 4294967296) × ((gain + lowered) % 2 ^ 64 ≡ base)
+
+-- What the recurrence gives behind two integers, worked out where 2 ^ 64 counts as 0, of numbers that the machine holds.
+pub record Wraps (packed gain x before r : ℕ) : Type 0 where
+  pub sum : (r + before) % 2 ^ 64 ≡ (packed + gain + 2 * x) % 2 ^ 64
+  pub ofNumber : r < 2 ^ 64
+  pub ofGain : gain < 2 ^ 64
+  pub ofPacked : packed < 2 ^ 32
+  pub ofLast : x ≤ mostX
+  pub ofBefore : before ≤ mostX
+
+-- Integers that are kept are in their range.
+abbrev pub Ranged : declaredWorked.Worked → Type 0
+Ranged (Worked.Kept x before) = (x ≤ mostX) × (before ≤ mostX)
+Ranged Worked.Out = _≡_ {A = ℕ} 0 0
+
+-- What one packed number gives behind two integers, judged, and what two give.
+abbrev pub JudgedNext : (packed gain x before : ℕ) → declaredWorked.Worked → Type 0
+JudgedNext packed gain x before r = (base lowered : ℕ) → Gains gain base lowered → r ≡ next (packed + base) lowered (Worked.Kept x before)
+
+abbrev pub JudgedTwo : (first second gain x before : ℕ) → declaredWorked.Worked → Type 0
+JudgedTwo first second gain x before r =
+    (base lowered : ℕ) → Gains gain base lowered → r ≡ next (second + base) lowered (next (first + base) lowered (Worked.Kept x before))
+
+-- How many numbers are read in windows, of so many pairs that can be: numbers of few bits are read four at a time.
+abbrev pub windowed : ℕ → ℕ → ℕ
+windowed width pairs = cond (leb width 14) (pairs / 2 * 4) (pairs * 2)
 
 -- What is left of a group behind its first numbers.
 abbrev pub behind : declared.Group → ℕ → declared.Group

@@ -1,11 +1,11 @@
-// One group of complex packing (5.3): the integers X of its values, judged before anything is written, and then written to the field's points.
+// One group of complex packing (5.3): its integers X, judged in a first pass that writes nothing, and put into a lent block in a second one.
 ghost use mathlib.Core.Path.{_≡_};
-ghost use Prim.Native.Nat.{_+_, _*_, _≤_};
+ghost use Prim.Native.Nat.{_+_, _-_, _*_, _%_, _≤_};
 ghost use lib.ListN.{length};
-ghost use Rattle.values_points.specs.Written.{everyPoint, onesOf, lent, left, Room, MarkedRoom, PointsLeft};
+ghost use Rattle.laws_rows.specs.Rows.{row, filled};
+ghost use Rattle.bits.specs.Pairs.{Paired, Foured};
 ghost use Rattle.values_group.specs.declared.Worked.the-variants as Worked;
-ghost use Rattle.values_group.specs.Group.{Limits, PairLimits, GroupKept, GroupWritten, behind, workedBy};
-use doubles::Packing;
+ghost use Rattle.values_group.specs.Group.{mostX, workedBy, Limits, GroupKept, GroupGoes, integersOf, Gains, Wraps, Ranged, JudgedNext, JudgedTwo, windowed, behind};
 use octets::BitPlace;
 
 // A group as the recurrence takes it: the place of its first packed number, the width of each, its reference with what Zmin adds, what Zmin
@@ -24,11 +24,10 @@ pub enum Worked {
     Out,
 }
 
-// How far the writing has come: the last integer, the one before it, and the next point.
-pub struct Reached {
+// The last integer and the one before it.
+pub struct Latest {
     pub x: u64,
     pub before: u64,
-    pub point: usize,
 }
 
 // What is left of the group behind its first `done` numbers.
@@ -45,74 +44,166 @@ fn behind(group: Group, done: u64) -> Group
     }
 }
 
-// Works out the integers of the group one by one, behind the two latest, and stops at one that is out of its range.
-fn judge_each(section: &[u8], group: Group, latest: u64, earlier: u64) -> Worked
-    requires { ⌜ Limits group latest earlier ⌝ }
-    ensures { λ r. ⌜ r ≡ workedBy (now (section .entry)) group (Worked.Kept latest earlier) (group .count) ⌝ }
+// What the recurrence adds to each packed number of the group, where 2 ^ 64 counts as 0.
+fn gain_of(group: Group) -> u64
+    requires { ⌜ (group .base ≤ 8589934592) × (group .lowered ≤ 4294967296) ⌝ }
+    ensures { λ r. ⌜ Gains r (group .base) (group .lowered) ⌝ }
+{
+    std::num::wrapping_sub_u64(group.base, group.lowered)
+}
+
+// The integer that a packed number gives behind the two latest, where 2 ^ 64 counts as 0: one below 0 is far too large. The last integer comes into the
+// sum last, so that a loop waits for it as short as can be.
+fn integer_behind(packed: u32, gain: u64, x: u64, before: u64) -> u64
+    requires { ⌜ (x ≤ mostX) × (before ≤ mostX) ⌝ }
+    ensures { λ r. ⌜ Wraps packed gain x before r ⌝ }
+{
+    let raised = std::num::wrapping_add_u64(packed as u64, gain);
+    std::num::wrapping_add_u64(std::num::wrapping_sub_u64(raised, before), 2 * x)
+}
+
+// That integer, judged: one test finds those that are too large and those below 0.
+fn judge_next(packed: u32, gain: u64, x: u64, before: u64) -> Worked
+    requires { ⌜ (x ≤ mostX) × (before ≤ mostX) ⌝ }
+    ensures { λ r. ⌜ (JudgedNext packed gain x before r) × (Ranged r) ⌝ }
+{
+    let integer = integer_behind(packed, gain, x, before);
+    if 2147483647 < integer {
+        return Worked::Out;
+    }
+    Worked::Kept {
+        x: integer,
+        before: x,
+    }
+}
+
+// The integers that two packed numbers give, judged.
+fn judge_two(first: u32, second: u32, gain: u64, x: u64, before: u64) -> Worked
+    requires { ⌜ (x ≤ mostX) × (before ≤ mostX) ⌝ }
+    ensures { λ r. ⌜ (JudgedTwo first second gain x before r) × (Ranged r) ⌝ }
+{
+    let Worked::Kept {
+        x: one,
+        before: earlier,
+    } = judge_next(first, gain, x, before)
+    else {
+        return Worked::Out;
+    };
+    judge_next(second, gain, one, earlier)
+}
+
+// Works out the integers of the group one by one from number `from` on, behind the two latest, and stops at one that is out of its range.
+fn judge_each(section: &[u8], group: Group, from: u64, latest: u64, earlier: u64) -> Worked
+    requires { ⌜ (Limits group latest earlier) × (from ≤ group .count) ⌝ }
+    ensures { λ r. ⌜ r ≡ workedBy (now (section .entry)) (behind group from) (Worked.Kept latest earlier) (group .count - from) ⌝ }
 {
     let width = group.width;
-    let base = group.base;
-    let lowered = group.lowered;
+    let gain = gain_of(group);
     let count = group.count;
-    let mut at = group.from;
+    let mut at = BitPlace(group.from.0 + from as usize * width as usize);
     let mut x = latest;
     let mut before = earlier;
-    let mut done: u64 = 0;
+    let mut done = from;
     while done < count {
         let taken = bits_reader::take(section, at, width);
-        let up = taken.number as u64 + base + 2 * x;
-        let down = before + lowered;
-        if up < down {
+        let Worked::Kept {
+            x: one,
+            before: previous,
+        } = judge_next(taken.number, gain, x, before)
+        else {
             return Worked::Out;
-        }
-        if 2147483647 < up - down {
-            return Worked::Out;
-        }
-        before = x;
-        x = up - down;
+        };
+        before = previous;
+        x = one;
         at = taken.next;
         done += 1;
     }
     Worked::Kept { x, before }
 }
 
-// The same for so many pairs of integers, where eight octets are left at each.
+// Works out so many pairs of its first integers, where eight octets are left at each.
 fn judge_pairs(section: &[u8], group: Group, pairs: u64, latest: u64, earlier: u64) -> Worked
-    requires { ⌜ PairLimits (now section) group pairs latest earlier ⌝ }
+    requires { ⌜ (Limits group latest earlier) × (Paired (length (now section)) (group .from .0) (group .width) (group .count) pairs) ⌝ }
     ensures { λ r. ⌜ r ≡ workedBy (now (section .entry)) group (Worked.Kept latest earlier) (2 * pairs) ⌝ }
 {
     let width = group.width;
-    let base = group.base;
-    let lowered = group.lowered;
+    let gain = gain_of(group);
     let mut at = group.from;
     let mut x = latest;
     let mut before = earlier;
     let mut done: u64 = 0;
     while done < pairs {
         let taken = bits_reader::take_pair(section, at, width);
-        let up = taken.first as u64 + base + 2 * x;
-        let down = before + lowered;
-        if up < down {
+        let Worked::Kept {
+            x: two,
+            before: one,
+        } = judge_two(taken.first, taken.second, gain, x, before)
+        else {
             return Worked::Out;
-        }
-        if 2147483647 < up - down {
-            return Worked::Out;
-        }
-        let next = up - down;
-        let higher = taken.second as u64 + base + 2 * next;
-        let deeper = x + lowered;
-        if higher < deeper {
-            return Worked::Out;
-        }
-        if 2147483647 < higher - deeper {
-            return Worked::Out;
-        }
-        before = next;
-        x = higher - deeper;
+        };
+        before = one;
+        x = two;
         at = taken.next;
         done += 1;
     }
     Worked::Kept { x, before }
+}
+
+// The same for so many fours of integers.
+fn judge_fours(section: &[u8], group: Group, fours: u64, latest: u64, earlier: u64) -> Worked
+    requires { ⌜ (Limits group latest earlier) × (Foured (length (now section)) (group .from .0) (group .width) (group .count) fours) ⌝ }
+    ensures { λ r. ⌜ r ≡ workedBy (now (section .entry)) group (Worked.Kept latest earlier) (4 * fours) ⌝ }
+{
+    let width = group.width;
+    let gain = gain_of(group);
+    let mut at = group.from;
+    let mut x = latest;
+    let mut before = earlier;
+    let mut done: u64 = 0;
+    while done < fours {
+        let taken = bits_reader::take_four(section, at, width);
+        let Worked::Kept {
+            x: two,
+            before: one,
+        } = judge_two(taken.first, taken.second, gain, x, before)
+        else {
+            return Worked::Out;
+        };
+        let Worked::Kept {
+            x: last,
+            before: three,
+        } = judge_two(taken.third, taken.fourth, gain, two, one)
+        else {
+            return Worked::Out;
+        };
+        before = three;
+        x = last;
+        at = taken.next;
+        done += 1;
+    }
+    Worked::Kept { x, before }
+}
+
+// How many numbers so many pairs are that can be read two at a time, if numbers of few bits are read four at a time.
+fn windowed(width: u32, pairs: u64) -> u64
+    requires { ⌜ pairs ≤ 4294967296 ⌝ }
+    ensures { λ r. ⌜ r ≡ windowed width pairs ⌝ }
+{
+    if width <= 14 {
+        return pairs / 2 * 4;
+    }
+    pairs * 2
+}
+
+// Works out so many of its first integers, four or two at a time.
+fn judge_windows(section: &[u8], group: Group, pairs: u64, latest: u64, earlier: u64) -> Worked
+    requires { ⌜ (Limits group latest earlier) × (Paired (length (now section)) (group .from .0) (group .width) (group .count) pairs) ⌝ }
+    ensures { λ r. ⌜ r ≡ workedBy (now (section .entry)) group (Worked.Kept latest earlier) (windowed (group .width) pairs) ⌝ }
+{
+    if group.width <= 14 {
+        return judge_fours(section, group, pairs / 2, latest, earlier);
+    }
+    judge_pairs(section, group, pairs, latest, earlier)
 }
 
 // Works out the integers of the group, behind the two latest, and stops at one that is out of its range. It writes nothing.
@@ -121,173 +212,155 @@ pub fn judge(section: &[u8], group: Group, latest: u64, earlier: u64) -> Worked
     ensures { λ r. ⌜ r ≡ workedBy (now (section .entry)) group (Worked.Kept latest earlier) (group .count) ⌝ }
 {
     let pairs = bits::pairs_in(section.len(), group.from, group.width, group.count as usize) as u64;
-    if pairs == 0 {
-        return judge_each(section, group, latest, earlier);
-    }
-    let Worked::Kept { x, before } = judge_pairs(section, group, pairs, latest, earlier) else {
+    let Worked::Kept { x, before } = judge_windows(section, group, pairs, latest, earlier) else {
         return Worked::Out;
     };
-    judge_each(section, behind(group, 2 * pairs), x, before)
+    judge_each(section, group, windowed(group.width, pairs), x, before)
 }
 
-// Writes the group's integers one by one, where every point is present. All are in their range, which is not judged again. The remainder is the
-// integer itself, and tells the compiler that it has 31 bits.
-fn fill_each(
+// An integer as an element of a block. The remainder is the integer itself, and tells the compiler that it has 31 bits.
+fn element(x: u64) -> u32
+    ensures { λ r. ⌜ r ≡ x % 2147483648 ⌝ }
+{
+    (x % 0x8000_0000) as u32
+}
+
+// Puts the integers of the group into a block one by one, from number `from` on and from that element on. All are in their range, which is not judged again.
+fn unpack_each(
     section: &[u8],
     group: Group,
-    packing: Packing,
-    values: &mut [f64],
-    presence: &mut [u8],
-    reached: Reached,
-) -> Reached
-    requires { ⌜ Limits group (reached .x) (reached .before) ⌝ }
-    requires { ⌜ GroupKept (now section) group (group .count) reached ⌝ }
-    requires { ⌜ Room (now values) (now presence) ⌝ }
-    requires { ⌜ reached .point + group .count ≤ length (now values) ⌝ }
-    ensures { λ r. ⌜ workedBy (now (section .entry)) group (Worked.Kept (reached .x) (reached .before)) (group .count) ≡ Worked.Kept (r .x) (r .before) ⌝ }
-    ensures { λ r. ⌜ GroupWritten everyPoint packing (now (section .entry)) group (group .count) reached r (lent values presence) (left values presence) ⌝ }
+    from: usize,
+    block: &mut [u32],
+    latest: Latest,
+) -> Latest
+    requires { ⌜ (Limits group (latest .x) (latest .before)) × (from ≤ length (now block)) × (length (now block) ≤ group .count) ⌝ }
+    requires { ⌜ GroupKept (now section) (behind group from) latest (length (now block) - from) ⌝ }
+    ensures { λ r. ⌜ GroupGoes (now (section .entry)) (behind group from) latest (length (now (block .entry)) - from) r ⌝ }
+    ensures { λ _. ⌜ now (block .exit) ≡ filled (λ i. integersOf (now (section .entry)) (behind group from) latest (i - from))
+        from (length (now (block .entry)) - from) (now (block .entry)) ⌝ }
 {
     let width = group.width;
-    let base = group.base;
-    let lowered = group.lowered;
-    let end = reached.point + group.count as usize;
-    let mut at = group.from;
-    let mut x = reached.x;
-    let mut before = reached.before;
-    let mut i = reached.point;
-    while i < end {
+    let gain = gain_of(group);
+    let mut at = BitPlace(group.from.0 + from * width as usize);
+    let mut x = latest.x;
+    let mut before = latest.before;
+    let mut i = from;
+    while i < block.len() {
         let taken = bits_reader::take(section, at, width);
-        let up = taken.number as u64 + base + 2 * x;
-        let next = up - (before + lowered);
-        values[i] = doubles::rebuild(packing, (next % 0x8000_0000) as u32);
-        presence[i] = 1;
+        let one = integer_behind(taken.number, gain, x, before);
+        block[i] = element(one);
         before = x;
-        x = next;
+        x = one;
         at = taken.next;
         i += 1;
     }
-    Reached {
-        x,
-        before,
-        point: i,
-    }
+    Latest { x, before }
 }
 
-// The same for so many pairs of integers, where eight octets are left at each.
-fn fill_pairs(
+// Puts so many pairs of its first integers into a block, where eight octets are left at each.
+fn unpack_pairs(
     section: &[u8],
     group: Group,
-    pairs: u64,
-    packing: Packing,
-    values: &mut [f64],
-    presence: &mut [u8],
-    reached: Reached,
-) -> Reached
-    requires { ⌜ PairLimits (now section) group pairs (reached .x) (reached .before) ⌝ }
-    requires { ⌜ GroupKept (now section) group (2 * pairs) reached ⌝ }
-    requires { ⌜ Room (now values) (now presence) ⌝ }
-    requires { ⌜ reached .point + 2 * pairs ≤ length (now values) ⌝ }
-    ensures { λ r. ⌜ workedBy (now (section .entry)) group (Worked.Kept (reached .x) (reached .before)) (2 * pairs) ≡ Worked.Kept (r .x) (r .before) ⌝ }
-    ensures { λ r. ⌜ GroupWritten everyPoint packing (now (section .entry)) group (2 * pairs) reached r (lent values presence) (left values presence) ⌝ }
+    pairs: usize,
+    block: &mut [u32],
+    latest: Latest,
+) -> Latest
+    requires { ⌜ (Limits group (latest .x) (latest .before)) × (length (now block) ≤ group .count) ⌝ }
+    requires { ⌜ Paired (length (now section)) (group .from .0) (group .width) (length (now block)) pairs ⌝ }
+    requires { ⌜ GroupKept (now section) group latest (2 * pairs) ⌝ }
+    ensures { λ r. ⌜ GroupGoes (now (section .entry)) group latest (2 * pairs) r ⌝ }
+    ensures { λ _. ⌜ now (block .exit) ≡ filled (integersOf (now (section .entry)) group latest) 0 (2 * pairs) (now (block .entry)) ⌝ }
 {
     let width = group.width;
-    let base = group.base;
-    let lowered = group.lowered;
-    let end = reached.point + 2 * pairs as usize;
+    let gain = gain_of(group);
+    let end = 2 * pairs;
     let mut at = group.from;
-    let mut x = reached.x;
-    let mut before = reached.before;
-    let mut i = reached.point;
+    let mut x = latest.x;
+    let mut before = latest.before;
+    let mut i: usize = 0;
     while i < end {
         let taken = bits_reader::take_pair(section, at, width);
-        let up = taken.first as u64 + base + 2 * x;
-        let next = up - (before + lowered);
-        let higher = taken.second as u64 + base + 2 * next;
-        let third = higher - (x + lowered);
-        values[i] = doubles::rebuild(packing, (next % 0x8000_0000) as u32);
-        presence[i] = 1;
-        values[i + 1] = doubles::rebuild(packing, (third % 0x8000_0000) as u32);
-        presence[i + 1] = 1;
-        before = next;
-        x = third;
+        let one = integer_behind(taken.first, gain, x, before);
+        let two = integer_behind(taken.second, gain, one, x);
+        block[i] = element(one);
+        block[i + 1] = element(two);
+        before = one;
+        x = two;
         at = taken.next;
         i += 2;
     }
-    Reached {
-        x,
-        before,
-        point: i,
-    }
+    Latest { x, before }
 }
 
-// Writes the group's integers where every point is present.
-pub fn fill_all(
+// The same for so many fours of integers.
+fn unpack_fours(
     section: &[u8],
     group: Group,
-    packing: Packing,
-    values: &mut [f64],
-    presence: &mut [u8],
-    reached: Reached,
-) -> Reached
-    requires { ⌜ Limits group (reached .x) (reached .before) ⌝ }
-    requires { ⌜ GroupKept (now section) group (group .count) reached ⌝ }
-    requires { ⌜ Room (now values) (now presence) ⌝ }
-    requires { ⌜ reached .point + group .count ≤ length (now values) ⌝ }
-    ensures { λ r. ⌜ workedBy (now (section .entry)) group (Worked.Kept (reached .x) (reached .before)) (group .count) ≡ Worked.Kept (r .x) (r .before) ⌝ }
-    ensures { λ r. ⌜ GroupWritten everyPoint packing (now (section .entry)) group (group .count) reached r (lent values presence) (left values presence) ⌝ }
-{
-    let pairs = bits::pairs_in(section.len(), group.from, group.width, group.count as usize) as u64;
-    if pairs == 0 {
-        return fill_each(section, group, packing, values, presence, reached);
-    }
-    let paired = fill_pairs(section, group, pairs, packing, values, presence, reached);
-    fill_each(
-        section,
-        behind(group, 2 * pairs),
-        packing,
-        values,
-        presence,
-        paired,
-    )
-}
-
-// Writes the group's integers to the points that a bitmap has, and +0 to those missing before each.
-pub fn fill_marked(
-    section: &[u8],
-    bitmap: &[u8],
-    group: Group,
-    packing: Packing,
-    values: &mut [f64],
-    presence: &mut [u8],
-    reached: Reached,
-) -> Reached
-    requires { ⌜ Limits group (reached .x) (reached .before) ⌝ }
-    requires { ⌜ GroupKept (now section) group (group .count) reached ⌝ }
-    requires { ⌜ MarkedRoom (now bitmap) (now values) (now presence) ⌝ }
-    requires { ⌜ PointsLeft (now bitmap) (reached .point) (group .count) (length (now values)) ⌝ }
-    ensures { λ r. ⌜ workedBy (now (section .entry)) group (Worked.Kept (reached .x) (reached .before)) (group .count) ≡ Worked.Kept (r .x) (r .before) ⌝ }
-    ensures { λ r. ⌜ GroupWritten (onesOf (now (bitmap .entry))) packing (now (section .entry)) group (group .count) reached r
-        (lent values presence) (left values presence) ⌝ }
+    fours: usize,
+    block: &mut [u32],
+    latest: Latest,
+) -> Latest
+    requires { ⌜ (Limits group (latest .x) (latest .before)) × (length (now block) ≤ group .count) ⌝ }
+    requires { ⌜ Foured (length (now section)) (group .from .0) (group .width) (length (now block)) fours ⌝ }
+    requires { ⌜ GroupKept (now section) group latest (4 * fours) ⌝ }
+    ensures { λ r. ⌜ GroupGoes (now (section .entry)) group latest (4 * fours) r ⌝ }
+    ensures { λ _. ⌜ now (block .exit) ≡ filled (integersOf (now (section .entry)) group latest) 0 (4 * fours) (now (block .entry)) ⌝ }
 {
     let width = group.width;
-    let base = group.base;
-    let lowered = group.lowered;
-    let count = group.count;
+    let gain = gain_of(group);
+    let end = 4 * fours;
     let mut at = group.from;
-    let mut x = reached.x;
-    let mut before = reached.before;
-    let mut point = reached.point;
-    let mut done: u64 = 0;
-    while done < count {
-        let taken = bits_reader::take(section, at, width);
-        let up = taken.number as u64 + base + 2 * x;
-        let next = up - (before + lowered);
-        let own = (next % 0x8000_0000) as u32;
-        point = values_points::write_next(bitmap, packing, own, values, presence, point);
-        before = x;
-        x = next;
+    let mut x = latest.x;
+    let mut before = latest.before;
+    let mut i: usize = 0;
+    while i < end {
+        let taken = bits_reader::take_four(section, at, width);
+        let one = integer_behind(taken.first, gain, x, before);
+        let two = integer_behind(taken.second, gain, one, x);
+        let three = integer_behind(taken.third, gain, two, one);
+        let last = integer_behind(taken.fourth, gain, three, two);
+        block[i] = element(one);
+        block[i + 1] = element(two);
+        block[i + 2] = element(three);
+        block[i + 3] = element(last);
+        before = three;
+        x = last;
         at = taken.next;
-        done += 1;
+        i += 4;
     }
-    Reached { x, before, point }
+    Latest { x, before }
+}
+
+// Puts as many of its first integers into a block as are read in windows.
+fn unpack_windows(
+    section: &[u8],
+    group: Group,
+    pairs: usize,
+    block: &mut [u32],
+    latest: Latest,
+) -> Latest
+    requires { ⌜ (Limits group (latest .x) (latest .before)) × (length (now block) ≤ group .count) ⌝ }
+    requires { ⌜ Paired (length (now section)) (group .from .0) (group .width) (length (now block)) pairs ⌝ }
+    requires { ⌜ GroupKept (now section) group latest (windowed (group .width) pairs) ⌝ }
+    ensures { λ r. ⌜ GroupGoes (now (section .entry)) group latest (windowed (group .width) pairs) r ⌝ }
+    ensures { λ _. ⌜ now (block .exit) ≡ filled (integersOf (now (section .entry)) group latest) 0 (windowed (group .width) pairs) (now (block .entry)) ⌝ }
+{
+    if group.width <= 14 {
+        return unpack_fours(section, group, pairs / 2, block, latest);
+    }
+    unpack_pairs(section, group, pairs, block, latest)
+}
+
+// Puts integers of the group into a lent block, from number `done` on, one for each element of the block, behind the two latest.
+pub fn unpack(section: &[u8], group: Group, done: u64, block: &mut [u32], latest: Latest) -> Latest
+    requires { ⌜ (Limits group (latest .x) (latest .before)) × (done + length (now block) ≤ group .count) ⌝ }
+    requires { ⌜ GroupKept (now section) (behind group done) latest (length (now block)) ⌝ }
+    ensures { λ r. ⌜ GroupGoes (now (section .entry)) (behind group done) latest (length (now (block .entry))) r ⌝ }
+    ensures { λ _. ⌜ now (block .exit) ≡ row (integersOf (now (section .entry)) (behind group done) latest) (length (now (block .entry))) ⌝ }
+{
+    let rest = behind(group, done);
+    let pairs = bits::pairs_in(section.len(), rest.from, rest.width, block.len());
+    let last = unpack_windows(section, rest, pairs, block, latest);
+    let from = windowed(rest.width, pairs as u64) as usize;
+    unpack_each(section, rest, from, block, last)
 }

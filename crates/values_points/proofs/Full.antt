@@ -1,4 +1,4 @@
--- Points that are all present, one by one and a word at a time: where the number of a word is the greatest of 64 bits, each of these is 1.
+-- Points that are all present, one by one and a word or a window at a time: where the number of so many bits is the greatest there is, each of them is 1.
 use mathlib.Core.Path.{_≡_, ap, _∙_}
 use mathlib.Core.Bool.{true, _&&_}
 use mathlib.Core.List.{List}
@@ -7,13 +7,13 @@ use native.Mathlib.Nat.{pow-suc}
 use native.Mathlib.Omega.{arith}
 use borrow.Author.Tests.{ltb-true, ltb-false, leb-true, eqb-true}
 use lib.Dec.{eqb, leb, ltb}
-use lib.ListN.{getD}
+use lib.ListN.{length, getD}
 use lib.Pow.{pow-pos}
 use Rattle.octets.specs.Numbers.{numberAt}
 use Rattle.octets.proofs.Cases.{split, both}
 use Rattle.bits.specs.Bits.{bitAt, bitsAt}
 use Rattle.bits.proofs.Laws.{bit-lt, bits-of-octets}
-use Rattle.values_points.specs.Written.{isFull, Until}
+use Rattle.values_points.specs.Written.{isFull, Until, arePresent}
 use Rattle.values_points.proofs.Laws.{neither-less}
 
 -- The points from `from` up to `next` are present.
@@ -64,3 +64,11 @@ module _ (bitmap : List ℕ) (from end : ℕ) (full : isFull bitmap from end ≡
       let number : bitsAt bitmap from 64 ≡ 2 ^ 64 - 1 = ap (λ (at : ℕ). bitsAt bitmap at 64) start ∙ bits-of-octets bitmap (from / 8) 8 octets ∙ tested .2 in
       let place : i ≡ from + (i - from) = omega arith in
       ap (bitAt bitmap) place ∙ all-set bitmap from 64 number (i - from) (omega arith)
+
+-- Points that one window of the bitmap tells to be present are so.
+pub window-present : (bitmap : List ℕ) (point n : ℕ) → arePresent bitmap point n ≡ true → Present bitmap point (point + n)
+window-present bitmap point n told i l m =
+    let tests = both (leb (point / 8 + 8) (length bitmap)) (eqb (bitsAt bitmap point n) (2 ^ n - 1)) told in
+    let number : bitsAt bitmap point n ≡ 2 ^ n - 1 = eqb-true _ _ (tests .1) in
+    let place : i ≡ point + (i - point) = omega arith in
+    ap (bitAt bitmap) place ∙ all-set bitmap point n number (i - point) (omega arith)

@@ -6,13 +6,13 @@ use mathlib.Core.Bool.{Bool, false, _&&_}
 use lib.Dec.{eqb, leb}
 use mathlib.Core.List.{List}
 use lib.IntN.{pos}
-use lib.ListN.{length}
+use lib.ListN.{length, getD}
 use lib.Ieee.{Float, fin}
 use denote.Ref.{RefT, now}
 use denote.Triple.Both.{Both}
 use Rattle.octets.specs.Numbers.{numberAt}
 use Rattle.laws_rows.specs.Rows.{row, filled}
-use Rattle.bits.specs.Bits.{bitAt}
+use Rattle.bits.specs.Bits.{bitAt, bitsAt}
 use Rattle.doubles.specs.declared.Packing.{Packing}
 use Rattle.section_6.specs.Presence.{onesBefore}
 use Rattle.values_points.specs.Points.{doubleAt}
@@ -100,3 +100,11 @@ pub record Until (bitmap : List ℕ) (from end next : ℕ) : Type 0 where
   pub within : next ≤ end
   pub present : (i : ℕ) → from ≤ i → i < next → bitAt bitmap i ≡ 1
   pub missing : next < end → bitAt bitmap next ≡ 0
+
+-- The integers of a block, as elements of 31 bits.
+abbrev pub integersIn : List ℕ → ℕ → ℕ
+integersIn block k = getD block k 0 % 2147483648
+
+-- The n points from `point` on are present, as one window of the bitmap tells. Near the bitmap's end there is no window, and none is told of.
+abbrev pub arePresent : List ℕ → ℕ → ℕ → Bool
+arePresent bitmap point n = leb (point / 8 + 8) (length bitmap) && eqb (bitsAt bitmap point n) (2 ^ n - 1)

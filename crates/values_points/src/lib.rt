@@ -1,9 +1,9 @@
 // The points of a field in the runs lent for them: each gets its double, and 1 where it is present or 0 where it is missing.
 ghost use mathlib.Core.Path.{_≡_};
-ghost use Prim.Native.Nat.{_*_, _≤_, _<_};
+ghost use Prim.Native.Nat.{_+_, _*_, _≤_, _<_};
 ghost use lib.ListN.{length};
 ghost use Rattle.section_6.specs.Presence.{onesBefore};
-ghost use Rattle.values_points.specs.Written.{onesOf, lent, left, MarkedRoom, Cleared, Written, isFull, Until};
+ghost use Rattle.values_points.specs.Written.{everyPoint, onesOf, lent, left, Room, MarkedRoom, PointsLeft, Cleared, Written, isFull, Until, integersIn, arePresent};
 use doubles::Packing;
 use octets::BitPlace;
 
@@ -75,4 +75,88 @@ pub fn present_until(bitmap: &[u8], from: usize, end: usize) -> usize
         }
     }
     i
+}
+
+// Writes a block of integers to as many points from `point` on, all of which are present.
+pub fn write_all(
+    packing: Packing,
+    block: &[u32],
+    values: &mut [f64],
+    presence: &mut [u8],
+    point: usize,
+)
+    requires { ⌜ (Room (now values) (now presence)) × (point + length (now block) ≤ length (now values)) ⌝ }
+    ensures { λ _. ⌜ Written everyPoint packing (integersIn (now (block .entry))) (length (now (block .entry))) point (point + length (now (block .entry)))
+        (lent values presence) (left values presence) ⌝ }
+{
+    // The loop keeps a packing of its own, since it may not take the lent one for one that its writes leave alone.
+    let own = packing;
+    let mut i: usize = 0;
+    while i < block.len() {
+        values[point + i] = doubles::rebuild(own, block[i] % 0x8000_0000);
+        presence[point + i] = 1;
+        i += 1;
+    }
+}
+
+// Are the n points from `point` on all present, n at most 56? Near the bitmap's end it may say no where they are.
+fn are_present(bitmap: &[u8], point: usize, n: usize) -> bool
+    requires { ⌜ (point ≤ 16777216) × (n ≤ 56) ⌝ }
+    ensures { λ r. ⌜ r ≡ arePresent (now (bitmap .entry)) point n ⌝ }
+{
+    if point / 8 + 8 <= bitmap.len() {
+        return bits::read_wide(bitmap, BitPlace(point), n as u32) == (1u64 << n) - 1;
+    }
+    false
+}
+
+// Writes a block of integers to the next points that are present, one by one, and +0 to those missing before each.
+fn write_each(
+    bitmap: &[u8],
+    packing: Packing,
+    block: &[u32],
+    values: &mut [f64],
+    presence: &mut [u8],
+    point: usize,
+) -> usize
+    requires { ⌜ MarkedRoom (now bitmap) (now values) (now presence) ⌝ }
+    requires { ⌜ PointsLeft (now bitmap) point (length (now block)) (length (now values)) ⌝ }
+    ensures { λ r. ⌜ Written (onesOf (now (bitmap .entry))) packing (integersIn (now (block .entry))) (length (now (block .entry))) point r
+        (lent values presence) (left values presence) ⌝ }
+{
+    let mut next = point;
+    let mut k: usize = 0;
+    while k < block.len() {
+        next = write_next(
+            bitmap,
+            packing,
+            block[k] % 0x8000_0000,
+            values,
+            presence,
+            next,
+        );
+        k += 1;
+    }
+    next
+}
+
+// Writes a block of integers to the next points that are present, and +0 to those missing before each.
+pub fn write_marked(
+    bitmap: &[u8],
+    packing: Packing,
+    block: &[u32],
+    values: &mut [f64],
+    presence: &mut [u8],
+    point: usize,
+) -> usize
+    requires { ⌜ MarkedRoom (now bitmap) (now values) (now presence) ⌝ }
+    requires { ⌜ (PointsLeft (now bitmap) point (length (now block)) (length (now values))) × (length (now block) ≤ 56) ⌝ }
+    ensures { λ r. ⌜ Written (onesOf (now (bitmap .entry))) packing (integersIn (now (block .entry))) (length (now (block .entry))) point r
+        (lent values presence) (left values presence) ⌝ }
+{
+    if are_present(bitmap, point, block.len()) {
+        write_all(packing, block, values, presence, point);
+        return point + block.len();
+    }
+    write_each(bitmap, packing, block, values, presence, point)
 }

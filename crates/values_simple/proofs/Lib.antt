@@ -1,3 +1,4 @@
--- The laws of numbers in a row, and of stretches of points that are all present.
+-- The laws of numbers in a row, of stretches of points that are all present, and of a turn of four points.
 pub mod Laws
 pub mod Stretches
+pub mod Fours

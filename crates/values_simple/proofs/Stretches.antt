@@ -1,8 +1,8 @@
--- Stretches of points that are all present: one point more, one stretch behind another, and the same stretch as one that a bitmap marks.
+-- Stretches of points that are all present, by turns with points that are missing, and both runs at the end.
 use mathlib.Core.Path.{_≡_, refl, sym, ap, _∙_}
 use mathlib.Core.List.{List}
-use Prim.Native.Nat.{ℕ, zero, suc, _+_, _-_, _≤_, _<_}
-use native.Mathlib.Nat.{add-zero, sub-zero}
+use Prim.Native.Nat.{ℕ, _+_, _-_, _≤_, _<_}
+use native.Mathlib.Nat.{sub-zero}
 use native.Mathlib.Omega.{arith}
 use borrow.Author.Tests.{ltb-true, ltb-false}
 use lib.Dec.{ltb}
@@ -11,15 +11,15 @@ use lib.Ieee.{Float}
 use Rattle.octets.proofs.Cases.{split}
 use Rattle.bits.specs.Bits.{bitAt}
 use Rattle.laws_rows.specs.Rows.{filled}
-use Rattle.laws_rows.proofs.Laws.{filled-same, start-end}
+use Rattle.laws_rows.proofs.Laws.{start-end}
 use Rattle.doubles.specs.declared.Packing.{Packing}
 use Rattle.section_6.specs.Presence.{onesBefore}
 use Rattle.section_6.proofs.Laws.{ones-more}
-use Rattle.values_points.specs.Points.{pointValue, doubleAt}
+use Rattle.values_points.specs.Points.{doubleAt}
 use Rattle.values_points.specs.Written.{Marks, onesOf, Runs, WrittenPast, Cleared, Filled, Until}
 use Rattle.values_points.proofs.Laws.{past-then, written-field}
 use Rattle.values_points.proofs.Missing.{cleared-past, cleared-further}
-use Rattle.values_points.proofs.Present.{WrittenAll}
+use Rattle.values_points.proofs.Present.{WrittenAll, all-marked}
 
 -- Where all points of a field are written, both runs are filled.
 pub written-rows : (m : Marks) → ((i : ℕ) → m .rank (i + 1) ≡ m .rank i + m .mark i) → (packing : Packing) (x : ℕ → ℕ) → m .rank 0 ≡ 0 →
@@ -30,41 +30,6 @@ written-rows m step packing x none {count} {end} {a} {b} w whole same =
       start-end doubles end (a .doubles) (b .doubles) (rw (sub-zero end) at field) (length (a .doubles)) whole refl,
       start-end (m .mark) end (a .marks) (b .marks) (rw (sub-zero end) at (w .marks)) (length (a .doubles)) whole (sym whole ∙ same),
     )
-
--- Points that are all present add their number to the count of those present.
-ones-present : (bitmap : List ℕ) (from n : ℕ) → ((i : ℕ) → from ≤ i → i < from + n → bitAt bitmap i ≡ 1) → onesBefore bitmap (from + n) ≡ onesBefore bitmap from + n
-ones-present bitmap from zero h = ap (onesBefore bitmap) (add-zero from) ∙ sym (add-zero (onesBefore bitmap from))
-ones-present bitmap from (suc n) h =
-    let longer : from + suc n ≡ from + n + 1 = omega arith in
-    ap (onesBefore bitmap) longer
-    ∙ ones-more bitmap (from + n)
-    ∙ omega (arith, ones-present bitmap from n (λ i l m. h i l (omega arith)), h (from + n) (omega arith) (omega arith))
-
--- A stretch that is written as all present is one written by a bitmap that has all of its points.
-pub all-marked : (bitmap : List ℕ) (packing : Packing) (x : ℕ → ℕ) {from to : ℕ} {a b : Runs} →
-    WrittenAll packing x from to a b → ((i : ℕ) → from ≤ i → i < to → bitAt bitmap i ≡ 1) → WrittenPast (onesOf bitmap) packing x (to - from) from to a b
-all-marked bitmap packing x {from} {to} {a} {b} w present =
-    record {
-      onward = w .past .onward;
-      within = w .past .within;
-      used = ap (onesBefore bitmap) (sym whole) ∙ ones-present bitmap from (to - from) (λ i l m. present i l (omega (arith, whole)));
-      doubles =
-          w .past .doubles
-          ∙ filled-same (doubleAt packing x (λ _. 1) (λ i. i - from)) (doubleAt packing x (bitAt bitmap) (λ i. onesBefore bitmap i - onesBefore bitmap from)) from (to - from) (a .doubles) double;
-      marks = w .past .marks ∙ filled-same (λ _. 1) (bitAt bitmap) from (to - from) (a .marks) (λ i l m. sym (present i l (omega (arith, whole))));
-    }
-  where
-    whole : from + (to - from) ≡ to
-    whole = omega (arith, w .past .onward)
-
-    double : (i : ℕ) → from ≤ i → i < from + (to - from) →
-        doubleAt packing x (λ _. 1) (λ j. j - from) i ≡ doubleAt packing x (bitAt bitmap) (λ j. onesBefore bitmap j - onesBefore bitmap from) i
-    double i l m =
-        let here : from + (i - from) ≡ i = omega arith in
-        let before = ap (onesBefore bitmap) (sym here) ∙ ones-present bitmap from (i - from) (λ j k n. present j k (omega (arith, whole))) in
-        let rank : i - from ≡ onesBefore bitmap i - onesBefore bitmap from = omega (arith, before) in
-        ap (λ (k : ℕ). pointValue packing 1 (x k)) rank
-        ∙ ap (λ (mark : ℕ). pointValue packing mark (x (onesBefore bitmap i - onesBefore bitmap from))) (sym (present i l (omega (arith, whole))))
 
 -- A turn over a field with a bitmap: behind the points that are written, a stretch of points that are present and one of points that are missing.
 pub marked-turn : (bitmap : List ℕ) (packing : Packing) (x y : ℕ → ℕ) {i until next : ℕ} {a b c d : Runs} →

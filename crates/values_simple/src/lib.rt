@@ -2,6 +2,7 @@
 ghost use mathlib.Core.Path.{_≡_};
 ghost use Prim.Native.Nat.{_+_, _-_, _*_, _/_, _≤_};
 ghost use lib.ListN.{length};
+ghost use Rattle.bits.specs.Pairs.{Foured};
 ghost use Rattle.values_points.specs.Written.{everyPoint, onesOf, lent, left, Room, MarkedRoom, Filled};
 ghost use Rattle.values_integers.specs.Integers.{simpleInteger};
 ghost use Rattle.values_simple.specs.Simple.{NumbersWritten};
@@ -68,6 +69,41 @@ fn fill_pairs(
     at
 }
 
+// The same for so many fours of points. The doubles of a window are written before its marks, so that the compiler makes two at a time.
+fn fill_fours(
+    section: &[u8],
+    bits: u32,
+    packing: Packing,
+    values: &mut [f64],
+    presence: &mut [u8],
+    from: usize,
+    fours: usize,
+    first: BitPlace,
+) -> BitPlace
+    requires { ⌜ Room (now values) (now presence) × (first .0 ≤ 1099511627776) × (from + 4 * fours ≤ length (now values)) ⌝ }
+    requires { ⌜ Foured (length (now section)) (first .0) bits (4 * fours) fours ⌝ }
+    ensures { λ _. ⌜ NumbersWritten packing (now (section .entry)) bits (first .0) from (from + 4 * fours) (lent values presence) (left values presence) ⌝ }
+    ensures { λ r. ⌜ r .0 ≡ first .0 + 4 * fours * bits ⌝ }
+{
+    let end = from + 4 * fours;
+    let mut at = first;
+    let mut i = from;
+    while i < end {
+        let taken = bits_reader::take_four(section, at, bits);
+        values[i] = doubles::rebuild(packing, taken.first);
+        values[i + 1] = doubles::rebuild(packing, taken.second);
+        values[i + 2] = doubles::rebuild(packing, taken.third);
+        values[i + 3] = doubles::rebuild(packing, taken.fourth);
+        presence[i] = 1;
+        presence[i + 1] = 1;
+        presence[i + 2] = 1;
+        presence[i + 3] = 1;
+        at = taken.next;
+        i += 4;
+    }
+    at
+}
+
 // Writes points that are all present, from `from` up to `to`, whose numbers start at bit `first`.
 fn fill_present(
     section: &[u8],
@@ -87,6 +123,12 @@ fn fill_present(
     let pairs = bits::pairs_in(section.len(), first, bits, to - from);
     if pairs == 0 {
         return fill_each(section, bits, packing, values, presence, from, to, first);
+    }
+    if bits <= 14 {
+        let fours = pairs / 2;
+        let next = fill_fours(section, bits, packing, values, presence, from, fours, first);
+        let rest = from + 4 * fours;
+        return fill_each(section, bits, packing, values, presence, rest, to, next);
     }
     let next = fill_pairs(section, bits, packing, values, presence, from, pairs, first);
     let rest = from + 2 * pairs;

@@ -1,4 +1,4 @@
--- `bits_reader::next_pair` meets its contract: it is walked as `next` is, with `read_pair` in the place of `read_pair`, and `after` is called twice.
+-- `bits_reader::next_pair` meets its contract: it is walked as `next` is, with `read_pair` in the place of `read_bits`, and `after` is called twice.
 use mathlib.Core.Path.{_≡_, refl}
 use Prim.Native.Nat.{ℕ, _+_, _*_, _<_, _^_}
 use native.Mathlib.Omega.{arith}

@@ -1,10 +1,10 @@
 -- `values_complex::fill_all` meets its contract. The invariant: i groups are passed in the runs that came in. The loop knows those only by what the first
--- two values have made of them, so it is said of any runs of which they make these.
-use mathlib.Core.Path.{refl}
+-- two values have made of them, so it is said of any runs of which they make these. The block that goes around keeps its length.
+use mathlib.Core.Path.{_≡_, refl, sym}
 use Prim.Native.Nat.{_-_}
 use native.Mathlib.Omega.{arith}
 use borrow.Author.Needs.{needs}
-use lib.ListN.{length-set}
+use lib.ListN.{length, length-set}
 use Rattle.values_points.specs.Written.{Runs, runs}
 use Rattle.values_complex.proofs.Bounds.{starts-bounded}
 use Rattle.values_complex.proofs.Passed.{next-kept, passed-more}
@@ -14,11 +14,12 @@ use Rattle.values_complex.proofs.fill_all.Statement.{statement}
 use Rattle.values_complex.proofs.fill_all.Tie as tie
 
 abbrev Inv-loop : tie.InvT-loop
-Inv-loop section groups packing values₀ presence₀ grouping reached₀ start₀ i₀ values presence reached start i =
-    (a : Runs) → PassedAll section groups packing a 0 reached₀ start₀ (runs values₀ presence₀) → PassedAll section groups packing a i reached start (runs values presence)
+Inv-loop section groups packing values₀ presence₀ grouping reached₀ block₀ start₀ i₀ values presence reached block start i =
+    (length block ≡ 64)
+    × ((a : Runs) → PassedAll section groups packing a 0 reached₀ start₀ (runs values₀ presence₀) → PassedAll section groups packing a i reached start (runs values presence))
 
 abbrev μ-loop : tie.MeasureT-loop
-μ-loop section groups packing values₀ presence₀ grouping reached₀ start₀ i₀ values presence reached start i = groups .grouping .groups - i
+μ-loop section groups packing values₀ presence₀ grouping reached₀ block₀ start₀ i₀ values presence reached block start i = groups .grouping .groups - i
 
 -- At each turn i groups are passed in the runs that came in.
 passed : (c : tie.At-loop Inv-loop μ-loop) →
@@ -28,7 +29,7 @@ passed : (c : tie.At-loop Inv-loop μ-loop) →
 passed c =
     let start = c .before .before .before .before .before .before .before .before .before .before .before .before in
     let a = start .args in
-    c .loop .inv (runs (a .values .now) (a .presence .now))
+    c .loop .inv .1 (runs (a .values .now) (a .presence .now))
     (all-begun (a .section .now) (a .groups) (start .pre .0) (start .pre .1 .0) (start .pre .1 .1 .1)
     (c .before .before .before .before .before .rebuild .ensures) (c .before .before .before .before .rebuild2 .ensures) (c .before .first-bit .ensures))
 
@@ -54,11 +55,11 @@ slice-write-presence-2 c =
     let start = c .before .before .before .before .before .before .before .before in
     omega (arith, start .pre .0 .twoValues, length-set (start .args .presence .now) 0 1)
 
-cast-t20 : tie.Need-cast-t20 Inv-loop μ-loop
-cast-t20 c = search needs
-
 cast-t21 : tie.Need-cast-t21 Inv-loop μ-loop
 cast-t21 c = search needs
+
+cast-t22 : tie.Need-cast-t22 Inv-loop μ-loop
+cast-t22 c = search needs
 
 first-bit-requires : tie.Need-first-bit-requires Inv-loop μ-loop
 first-bit-requires c κs =
@@ -66,28 +67,30 @@ first-bit-requires c κs =
     omega (arith, starts-bounded _ _ sound)
 
 loop-holds : tie.Need-loop-holds Inv-loop μ-loop
-loop-holds c = λ a begun. begun
+loop-holds c = (refl, λ a begun. begun)
 
 group-at-requires : tie.Need-group-at-requires Inv-loop μ-loop
 group-at-requires c κs =
     let sound = c .before .before .before .before .before .before .before .before .before .before .before .before .before .before .pre .0 in
     ((sound, omega arith), passed (c .before .before) .starts)
 
-fill-all-requires : tie.Need-fill-all-requires Inv-loop μ-loop
-fill-all-requires c κs =
-    let start = c .before .before .before .before .before .before .before .before .before .before .before .before .before .before .before .before .before .before in
+slice-aggregate-write-group : tie.Need-slice-aggregate-write-group Inv-loop μ-loop
+slice-aggregate-write-group c = sym (c .before .before .before .before .before .loop .inv .0)
+
+write-group-requires : tie.Need-write-group-requires Inv-loop μ-loop
+write-group-requires c κs =
+    let start = c .before .before .before .before .before .before .before .before .before .before .before .before .before .before .before .before .before .before .before in
     let a = start .args in
-    let s = passed (c .before .before .before .before .before .before) in
+    let l = c .before .before .before .before .before .before .before in
+    let s = passed l in
     let run = a .section .now in
     let lengths = passed-lengths run (a .groups) s in
-    rw (c .before .before .before .group-at .ensures .0) (
-      kept-limits run (a .groups) (s .kept) (omega arith) (start .pre .0),
+    rw (c .before .before .before .before .group-at .ensures .0) (
+      (kept-limits run (a .groups) (s .kept) (omega arith) (start .pre .0), next-kept run (a .groups) (start .pre .0) (start .pre .1 .0) s (omega arith)),
       (
-        next-kept run (a .groups) (start .pre .0) (start .pre .1 .0) s (omega arith),
-        (
-          (omega (arith, lengths), omega (arith, lengths)),
-          all-room run (a .groups) (start .pre .0) (start .pre .1 .0) (start .pre .1 .1 .1) s (omega arith),
-        ),
+        (omega (arith, lengths), omega (arith, lengths)),
+        all-room run (a .groups) (start .pre .0) (start .pre .1 .0) (start .pre .1 .1 .1) s (omega arith),
+        l .loop .inv .0,
       ),
     )
 
@@ -99,15 +102,17 @@ loop-less c = search needs
 
 loop-again : tie.Need-loop-again Inv-loop μ-loop
 loop-again c =
-    let start = c .before .before .before .before .before .before .before .before .before .before .before .before .before .before .before .before .before .before .before .before .before .before .before .before in
+    let written = c .before .before .before .before .before .before in
+    let l = written .before .before .before .before .before .before .before .before .loop in
+    let start = written .before .before .before .before .before .before .before .before .before .before .before .before .before .before .before .before .before .before .before .before in
     let a = start .args in
-    let l = c .before .before .before .before .before .before .before .before .before .before .before .before .loop in
-    let turn = c .before .before .before .before .before .before .before .before .before .before .if1 .taken in
-    let met = c .before .before .before .before .before .before .before .before .before .group-at .ensures in
-    let filled = c .before .before .before .before .before .fill-all .ensures in
-    λ came begun.
-    passed-more (a .section .now) (a .groups) (start .pre .0) (start .pre .1 .0) (l .inv came begun) turn (λ j. refl) (met .1)
-    (rw (met .0) at (filled .0)) (rw (met .0) at (filled .1))
+    let turn = written .before .before .before .before .before .before .if1 .taken in
+    let met = written .before .before .before .before .before .group-at .ensures in (
+      omega (arith, written .write-group .kept, l .inv .0),
+      λ came begun.
+          passed-more (a .section .now) (a .groups) (start .pre .0) (start .pre .1 .0) (l .inv .1 came begun) turn (λ j. refl) (met .1)
+          (rw (met .0) at (written .write-group .ensures .0)) (rw (met .0) at (written .write-group .ensures .1)),
+    )
 
 same-length : tie.Need-same-length Inv-loop μ-loop
 same-length c =
@@ -136,12 +141,13 @@ fill-all-spec =
     rebuild-requires-2
     slice-write-values-2
     slice-write-presence-2
-    cast-t20
     cast-t21
+    cast-t22
     first-bit-requires
     loop-holds
     group-at-requires
-    fill-all-requires
+    slice-aggregate-write-group
+    write-group-requires
     add-i
     loop-less
     loop-again

@@ -1,6 +1,6 @@
 -- `values_complex::fill_marked` meets its contract. The invariant: i groups are passed, in the runs that came in. It has no name for those, so it says that
--- there are such runs, as long as the loop's.
-use mathlib.Core.Path.{_≡_, refl, ap}
+-- there are such runs, as long as the loop's. The block that goes around keeps its length.
+use mathlib.Core.Path.{_≡_, refl, sym, ap}
 use Prim.Native.Nat.{_-_}
 use native.Mathlib.Omega.{arith}
 use borrow.Author.Needs.{needs}
@@ -16,12 +16,12 @@ use Rattle.values_complex.proofs.fill_marked.Statement.{statement}
 use Rattle.values_complex.proofs.fill_marked.Tie as tie
 
 abbrev Inv-loop : tie.InvT-loop
-Inv-loop section bitmap groups packing values₀ presence₀ grouping second one two reached₀ start₀ i₀ values presence reached start i =
+Inv-loop section bitmap groups packing values₀ presence₀ grouping second one point x before reached₀ block₀ start₀ i₀ values presence reached block start i =
     (a : Runs) × (length (a .doubles) ≡ length values₀) × (length (a .marks) ≡ length presence₀) × (length values ≡ length values₀)
-    × (length presence ≡ length presence₀) × Passed section groups (onesOf bitmap) packing a i reached start (runs values presence)
+    × (length presence ≡ length presence₀) × Passed section groups (onesOf bitmap) packing a i reached start (runs values presence) × (length block ≡ 64)
 
 abbrev μ-loop : tie.MeasureT-loop
-μ-loop section bitmap groups packing values₀ presence₀ grouping second one two reached₀ start₀ i₀ values presence reached start i = grouping .groups - i
+μ-loop section bitmap groups packing values₀ presence₀ grouping second one point x before reached₀ block₀ start₀ i₀ values presence reached block start i = grouping .groups - i
 
 -- The function's entry, from behind the first integer that is written.
 abbrev Begun : tie.After-write-next Inv-loop μ-loop → tie.Start Inv-loop μ-loop
@@ -49,11 +49,11 @@ write-next-requires-2 c κs =
     let left = second-left (first .write-next .ensures) (ones-none (s .args .bitmap .now)) (omega (arith, s .pre .0 .twoValues)) in
     omega (arith, left)
 
-cast-t27 : tie.Need-cast-t27 Inv-loop μ-loop
-cast-t27 c = search needs
+cast-x : tie.Need-cast-x Inv-loop μ-loop
+cast-x c = search needs
 
-cast-t28 : tie.Need-cast-t28 Inv-loop μ-loop
-cast-t28 c = search needs
+cast-before : tie.Need-cast-before Inv-loop μ-loop
+cast-before c = search needs
 
 first-bit-requires : tie.Need-first-bit-requires Inv-loop μ-loop
 first-bit-requires c κs =
@@ -73,6 +73,7 @@ loop-holds c =
       refl,
       refl,
       passed-none (s .args .section .now) (s .args .groups) (s .pre .0) (s .pre .1 .0) (ones-more run) (ones-none run) (first .write-next .ensures) (second .write-next2 .ensures),
+      refl,
     )
 
 group-at-requires : tie.Need-group-at-requires Inv-loop μ-loop
@@ -81,21 +82,21 @@ group-at-requires c κs =
     let s = Entry (l .before) in
     ((s .pre .0, c .if1 .taken), l .loop .inv .5 .starts)
 
-fill-marked-requires : tie.Need-fill-marked-requires Inv-loop μ-loop
-fill-marked-requires c κs =
-    let l = c .before .before .before .before .before .before in
+slice-aggregate-put-group : tie.Need-slice-aggregate-put-group Inv-loop μ-loop
+slice-aggregate-put-group c = sym (c .before .before .before .before .before .loop .inv .6)
+
+put-group-requires : tie.Need-put-group-requires Inv-loop μ-loop
+put-group-requires c κs =
+    let l = c .before .before .before .before .before .before .before in
     let s = Entry (l .before) in
     let section = s .args .section .now in
     let groups = s .args .groups in
-    let here = c .before .before .before .before .if1 .taken in
+    let here = c .before .before .before .before .before .if1 .taken in
     let passed = l .loop .inv .5 in
     let long = lengths l in
-    rw (c .before .before .before .group-at .ensures .0) (
-      kept-limits section groups (passed .kept) here (s .pre .0),
-      (
-        next-kept section groups (s .pre .0) (s .pre .1 .0) passed here,
-        omega (arith, long, next-room section groups (s .pre .0) passed here, ap (onesBefore (s .args .bitmap .now)) (long .0)),
-      ),
+    rw (c .before .before .before .before .group-at .ensures .0) (
+      (kept-limits section groups (passed .kept) here (s .pre .0), next-kept section groups (s .pre .0) (s .pre .1 .0) passed here),
+      (omega (arith, long, next-room section groups (s .pre .0) passed here, ap (onesBefore (s .args .bitmap .now)) (long .0)), l .loop .inv .6),
     )
 
 add-i : tie.Need-add-i Inv-loop μ-loop
@@ -106,8 +107,8 @@ loop-less c = search needs
 
 loop-again : tie.Need-loop-again Inv-loop μ-loop
 loop-again c =
-    let filled = c .before .before .before .before .before in
-    let met = filled .before .before .before .before in
+    let written = c .before .before .before .before .before .before in
+    let met = written .before .before .before .before .before in
     let l = met .before .before .before in
     let s = Entry (l .before) in
     let run = s .args .bitmap .now in
@@ -115,10 +116,11 @@ loop-again c =
       l .loop .inv .0,
       l .loop .inv .1,
       l .loop .inv .2,
-      omega (arith, filled .fill-marked .kept, l .loop .inv .3),
-      omega (arith, filled .fill-marked .kept, l .loop .inv .4),
+      omega (arith, written .put-group .kept, l .loop .inv .3),
+      omega (arith, written .put-group .kept, l .loop .inv .4),
       passed-more (s .args .section .now) (s .args .groups) (s .pre .0) (s .pre .1 .0) (l .loop .inv .5) (met .before .if1 .taken) (ones-more run) (met .group-at .ensures .1)
-          (rw group at (filled .fill-marked .ensures .0)) (rw group at (filled .fill-marked .ensures .1)),
+          (rw group at (written .put-group .ensures .0)) (rw group at (written .put-group .ensures .1)),
+      omega (arith, written .put-group .kept, l .loop .inv .6),
     )
 
 clear-missing-requires : tie.Need-clear-missing-requires Inv-loop μ-loop
@@ -148,12 +150,13 @@ fill-marked-spec =
     μ-loop
     write-next-requires
     write-next-requires-2
-    cast-t27
-    cast-t28
+    cast-x
+    cast-before
     first-bit-requires
     loop-holds
     group-at-requires
-    fill-marked-requires
+    slice-aggregate-put-group
+    put-group-requires
     add-i
     loop-less
     loop-again

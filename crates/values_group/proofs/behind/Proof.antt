@@ -1,7 +1,7 @@
 -- `values_group::behind` meets its contract: the bits of the numbers that are left out are few enough to be counted.
 use native.Mathlib.Omega.{arith}
 use borrow.Author.Needs.{needs}
-use Rattle.values_group.proofs.Pairs.{few-bits}
+use Rattle.values_group.proofs.Left.{few-bits}
 use Rattle.values_group.proofs.behind.Statement.{statement}
 use Rattle.values_group.proofs.behind.Tie as tie
 
