@@ -23,7 +23,7 @@ SUITES = [
     Suite('leaves', 6, 'the leaf layers against computations of their own'),
     Suite('tiling', 3, 'the archive that C links against an independent reading'),
     Suite('fields', 8, 'descriptions, places and listings against an independent reading'),
-    Suite('decoding', 12, 'every double and every presence against an independent reading'),
+    Suite('decoding', 14, 'every double and every presence against an independent reading'),
     Suite('samples', 21, 'the samples: one of each refusal, put to the example programs'),
     Suite('drawing', 9, 'pictures of fields, pixel by pixel'),
     Suite('install', 19, 'what make install installs, and its pages against the header'),
