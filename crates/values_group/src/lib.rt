@@ -53,7 +53,7 @@ fn gain_of(group: Group) -> u64
 }
 
 // The integer that a packed number gives behind the two latest, where 2 ^ 64 counts as 0: one below 0 is far too large. The last integer comes into the
-// sum last, so that a loop waits for it as short as can be.
+// sum last, so that a loop waits for one addition and no more.
 fn integer_behind(packed: u32, gain: u64, x: u64, before: u64) -> u64
     requires { ⌜ (x ≤ mostX) × (before ≤ mostX) ⌝ }
     ensures { λ r. ⌜ Wraps packed gain x before r ⌝ }

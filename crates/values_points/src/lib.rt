@@ -89,7 +89,7 @@ pub fn write_all(
     ensures { λ _. ⌜ Written everyPoint packing (integersIn (now (block .entry))) (length (now (block .entry))) point (point + length (now (block .entry)))
         (lent values presence) (left values presence) ⌝ }
 {
-    // The loop keeps a packing of its own, since it may not take the lent one for one that its writes leave alone.
+    // The loop has a packing of its own: of the lent one the compiler cannot know that the written doubles leave it alone.
     let own = packing;
     let mut i: usize = 0;
     while i < block.len() {
