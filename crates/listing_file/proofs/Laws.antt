@@ -20,7 +20,8 @@ use Rattle.tiling.proofs.Bounds.{check-few}
 use Rattle.question.specs.declared.Described.{Described}
 use Rattle.question.specs.declared.Described.the-variants as Described
 use Rattle.question.specs.Describe.{describe}
-use Rattle.text.specs.Text.{Puts, ascii, decimal}
+use Rattle.laws_rows.specs.Rows.{Puts}
+use Rattle.text.specs.Text.{ascii, decimal}
 use Rattle.text.proofs.Laws.{decimal-short}
 use Rattle.listing_lines.proofs.Laws.{refusal-short, field-short}
 use Rattle.listing_file.specs.declared.Printout.{Printout}

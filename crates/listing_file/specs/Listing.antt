@@ -15,7 +15,8 @@ use Rattle.tiling.specs.Tiling.{check}
 use Rattle.question.specs.declared.Described.{Described}
 use Rattle.question.specs.declared.Described.the-variants as Described
 use Rattle.question.specs.Describe.{describe}
-use Rattle.text.specs.Text.{Puts, ascii, decimal}
+use Rattle.laws_rows.specs.Rows.{Puts}
+use Rattle.text.specs.Text.{ascii, decimal}
 use Rattle.listing_lines.specs.Lines.{refusalText, fieldText}
 use Rattle.listing_file.specs.declared.Printout.{Printout}
 

@@ -2,7 +2,7 @@
 // of its refusal.
 ghost use Prim.Native.Nat.{_+_, _*_, _≤_};
 ghost use lib.ListN.{length};
-ghost use Rattle.text.specs.Text.{Puts};
+ghost use Rattle.laws_rows.specs.Rows.{Puts};
 ghost use Rattle.listing_file.specs.Listing.{lineOf, linesOf, refusedLine, listingOf, Prints};
 use octets::FilePlace;
 use question::Described;

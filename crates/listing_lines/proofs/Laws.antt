@@ -10,8 +10,10 @@ use Rattle.section_3_geometry.specs.declared.Grid.{Grid}
 use Rattle.section_4.specs.declared.ProductDefinition.{ProductDefinition}
 use Rattle.calendar.specs.Calendar.{digitsOf}
 use Rattle.question.specs.declared.Description.{Description}
-use Rattle.text.specs.Text.{Puts, ascii, decimal}
-use Rattle.text.proofs.Laws.{puts-none, puts-then, puts-length, decimal-short}
+use Rattle.laws_rows.specs.Rows.{Puts}
+use Rattle.laws_rows.proofs.Puts.{puts-none, puts-then, puts-length}
+use Rattle.text.specs.Text.{ascii, decimal}
+use Rattle.text.proofs.Laws.{decimal-short}
 use Rattle.listing_lines.specs.Lines.{refusalText, subjectText, sizeText, listedTime, fieldText}
 
 -- A text was put into run `a` from `at` on, which made it run `b`, and from `r`, the place behind the text, there is still so much room.

@@ -2,7 +2,7 @@
 ghost use mathlib.Core.Path.{_≡_};
 ghost use Prim.Native.Nat.{_+_, _≤_};
 ghost use lib.ListN.{length};
-ghost use Rattle.text.specs.Text.{Puts};
+ghost use Rattle.laws_rows.specs.Rows.{Puts};
 ghost use Rattle.listing_lines.specs.Lines.{refusalText, subjectText, sizeText, listedTime, fieldText};
 use calendar::Time;
 use question::Description;

@@ -1,59 +1,17 @@
 -- The laws of text, each once: pieces that are put one behind the other, and the decimal digits of a number.
 use mathlib.Core.Path.{_≡_, refl, sym, ap, ap₂, _∙_}
 use mathlib.Core.Bool.{cond}
-use mathlib.Core.List.{List, [], _∷_, _++_, append-assoc, append-nil}
+use mathlib.Core.List.{List, [], _∷_, _++_}
 use Prim.Native.Nat.{ℕ, zero, suc, _+_, _-_, _*_, _/_, _^_, _≤_, _<_}
-use native.Mathlib.Nat.{add-zero, pow-suc, pow-zero, div-lt-iff-lt-mul}
+use native.Mathlib.Nat.{pow-suc, pow-zero, div-lt-iff-lt-mul}
 use native.Mathlib.Omega.{arith}
 use lib.Dec.{eqb, ltb}
-use lib.ListN.{length, set, take, drop, length-append, length-drop, length-set, take-append-drop, drop-of-length-le}
-use lib.Seq.{length-take-le, take-at, drop-append-add, drop-drop, drop-cons, drop-set-lt, getD-set-same, append-snoc}
+use lib.ListN.{length, set, drop, length-append, length-set, drop-of-length-le}
+use lib.Seq.{drop-cons, drop-set-lt, getD-set-same, append-snoc}
 use borrow.Author.Tests.{ltb-true, ltb-false, eq-eqb, ne-eqb, eqb-true, eqb-false}
 use Rattle.octets.proofs.Cases.{split}
 use Rattle.calendar.specs.Calendar.{digit}
-use Rattle.laws_rows.specs.Rows.{laid}
-use Rattle.text.specs.Text.{Puts, spelt, decimal, readBehind, readBack}
-
--- Where nothing is put, the run and the place stay.
-pub puts-none : (a : List ℕ) (at : ℕ) → Puts a at [] a at
-puts-none a at = (
-  sym (ap (λ (k : ℕ). take at a ++ [] ++ drop k a) (add-zero at) ∙ ap (λ (front : List ℕ). front ++ drop at a) (append-nil (take at a)) ∙ take-append-drop at a),
-  sym (add-zero at),
-)
-
--- What is put, with what lies before it, is as long as its place and itself.
-front-length : (a : List ℕ) (at : ℕ) (u : List ℕ) → at + length u ≤ length a → length (take at a ++ u) ≡ at + length u
-front-length a at u fits = rw (length-append (take at a) u, length-take-le at a (omega arith))
-
--- A run keeps its length.
-laid-length : (a : List ℕ) (at : ℕ) (u : List ℕ) → at + length u ≤ length a → length (laid a at u) ≡ length a
-laid-length a at u fits =
-    rw (length-append (take at a ++ u) (drop (at + length u) a), front-length a at u fits, length-drop (at + length u) a) (omega arith)
-
-pub puts-length : (a : List ℕ) (at : ℕ) (u : List ℕ) {b : List ℕ} {r : ℕ} → at + length u ≤ length a → Puts a at u b r → length b ≡ length a
-puts-length a at u fits put = ap length (put .0) ∙ laid-length a at u fits
-
--- A piece that is put right behind another one: both are put as one piece.
-laid-then : (a : List ℕ) (at : ℕ) (u v : List ℕ) → at + length u ≤ length a → laid (laid a at u) (at + length u) v ≡ laid a at (u ++ v)
-laid-then a at u v fits =
-    let front : List ℕ = take at a ++ u in
-    let behind : List ℕ = drop (at + length u) a in
-    let long : length front ≡ at + length u = front-length a at u fits in
-    let rest : drop (at + length u + length v) (front ++ behind) ≡ drop (length v) behind = ap (λ (k : ℕ). drop (k + length v) (front ++ behind)) (sym long) ∙ drop-append-add front behind (length v) in
-    let place : at + length u + length v ≡ at + length (u ++ v) = omega (arith, length-append u v) in
-    ap₂ (λ (x y : List ℕ). x ++ v ++ y) (take-at front behind (at + length u) long) (rest ∙ drop-drop (length v) (at + length u) a)
-    ∙ ap₂ (λ (x : List ℕ) (k : ℕ). x ++ drop k a) (append-assoc (take at a) u v) place
-
-pub puts-then :
-    (a : List ℕ) (at : ℕ) (u v : List ℕ) {b c : List ℕ} {r q : ℕ}
-    → at + length u + length v ≤ length a
-    → Puts a at u b r
-    → Puts b r v c q
-    → Puts a at (u ++ v) c q
-puts-then a at u v fits first second = (
-  second .0 ∙ ap₂ (λ (run : List ℕ) (place : ℕ). laid run place v) (first .0) (first .1) ∙ laid-then a at u v (omega arith),
-  omega (arith, first .1, second .1, length-append u v),
-)
+use Rattle.text.specs.Text.{spelt, decimal, readBehind, readBack}
 
 -- The digits that stand before the last one of a number are those of its tenth, and none where that is 0.
 abbrev pub leading : ℕ → ℕ → List ℕ

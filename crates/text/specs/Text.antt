@@ -2,22 +2,15 @@
 use Prim.Native.Nat.{ℕ, zero, suc, _+_, _-_, _*_, _/_}
 use Prim.Native.Char.{code}
 use Prim.Native.String.{String, [] as noText, _∷_ as _andThen_}
-use mathlib.Core.Path.{_≡_}
 use mathlib.Core.Bool.{cond}
 use mathlib.Core.List.{List, [], _∷_, _++_}
 use lib.Dec.{ltb}
-use lib.ListN.{length}
-use Rattle.laws_rows.specs.Rows.{laid}
 use Rattle.calendar.specs.Calendar.{digit}
 
 -- The octets of a text: the codes of its characters.
 abbrev pub ascii : String → List ℕ
 ascii noText = []
 ascii (c andThen s) = code c ∷ ascii s
-
--- What a function that puts octets does to a run, and that it answers the place behind them.
-abbrev pub Puts : List ℕ → ℕ → List ℕ → List ℕ → ℕ → Type 0
-Puts before at octets after behind = (after ≡ laid before at octets) × (behind ≡ at + length octets)
 
 -- The decimal digits of a number that has at most so many: those of its tenth, and then the last one. None in front is 0, but for the number 0.
 unfoldable pub spelt : ℕ → ℕ → List ℕ

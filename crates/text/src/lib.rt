@@ -2,7 +2,8 @@
 ghost use mathlib.Core.Path.{_≡_};
 ghost use Prim.Native.Nat.{_+_, _≤_};
 ghost use lib.ListN.{length, drop};
-ghost use Rattle.text.specs.Text.{Puts, decimal};
+ghost use Rattle.laws_rows.specs.Rows.{Puts};
+ghost use Rattle.text.specs.Text.{decimal};
 
 // Puts the octets into the run from `at` on.
 pub fn put(run: &mut [u8], at: usize, octets: &[u8]) -> usize

@@ -5,8 +5,8 @@ use Prim.Native.Nat.{ℕ, _-_, _≤_}
 use native.Mathlib.Numerals.{add-one}
 use native.Mathlib.Omega.{arith}
 use borrow.Author.Needs.{needs}
-use Rattle.text.specs.Text.{Puts}
-use Rattle.text.proofs.Laws.{puts-none}
+use Rattle.laws_rows.specs.Rows.{Puts}
+use Rattle.laws_rows.proofs.Puts.{puts-none}
 use Rattle.listing_file.specs.Listing.{lineOf, linesOf}
 use Rattle.listing_lines.proofs.Laws.{Told, told-then, told-room, told-length}
 use Rattle.listing_file.proofs.Laws.{line-short, lines-short}
