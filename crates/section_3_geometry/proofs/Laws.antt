@@ -1,11 +1,12 @@
 -- The laws of a grid that others cite: what is known of one that is taken, and that its rows go south by Dj in whole numbers with a sign.
 use mathlib.Core.Path.{_≡_, sym, ap, _∙_}
-use mathlib.Core.Bool.{Bool, true, false}
+use mathlib.Core.Bool.{Bool, true, false, _&&_}
 use mathlib.Core.Logic.{_↔_}
-use Prim.Native.Nat.{ℕ, zero, suc, _+_, _-_, _*_, _≤_}
+use Prim.Native.Nat.{ℕ, zero, suc, _+_, _-_, _*_, _≤_, _<_}
+use native.Mathlib.Nat.{mul-le-mul-right}
 use native.Mathlib.Omega.{arith}
-use borrow.Author.Tests.{ltb-true, ltb-false}
-use lib.Dec.{ltb, leb→le, le→leb}
+use borrow.Author.Tests.{ltb-true, ltb-false, leb-true}
+use lib.Dec.{ltb, leb, leb→le, le→leb}
 use lib.IntN.{ℤ, pos, _-ℤ_}
 use lib.Signed.{_≤ℤ_, leZ-yes}
 use Rattle.octets.proofs.Cases.{split, both}
@@ -13,9 +14,9 @@ use Rattle.octets.proofs.Whole.{minus-less, minus-more, minus-sum}
 use Rattle.octets.specs.declared.Signed.{Signed}
 use Rattle.octets.specs.Numbers.{whole, wholeOf}
 use Rattle.section_3_geometry.specs.declared.Grid.{Grid}
-use Rattle.section_3_geometry.specs.Geometry.{isTaken, southOf}
+use Rattle.section_3_geometry.specs.Geometry.{isCounted, isCornered, isSpanned, isStepped, isTaken, southOf, spanEast, spanSouth}
 use Rattle.section_3_geometry.specs.Positions.{Measured, latitudeAt, latitudeOf}
-use Rattle.section_3_geometry.proofs.Tests.{counted, cornered}
+use Rattle.section_3_geometry.proofs.Tests.{counted, cornered, south-bound}
 
 -- A grid that is taken has rows with points, and its first latitude is one.
 pub taken-measured : (g : Grid) (points : ℕ) → isTaken g points ≡ true → Measured g
@@ -34,6 +35,29 @@ pub taken-counts : (g : Grid) (points : ℕ) → isTaken g points ≡ true → (
 taken-counts g points e =
     let count = counted g points (both _ _ (both _ _ e .0) .0) in
     (count .columns1, count .columns65535, count .rows1, count .rows65535)
+
+-- A latitude that lies so far south of the north pole has a size.
+at-most : (south : ℕ) → south ≤ 180065534 → latitudeAt south .size ≤ 90065534
+at-most south few =
+    split (ltb 90000000 south)
+    (λ past. rw past (omega arith))
+    (λ before. rw before (omega arith))
+
+-- Its last latitude is one too, and no row lies farther past the last latitude than there are steps.
+pub taken-last : (g : Grid) (points : ℕ) → isTaken g points ≡ true → g .last .latitude .size ≤ 90000000
+taken-last g points e = cornered g (both (isCounted g points) (isCornered g) (both (isCounted g points && isCornered g) (isStepped g) e .0) .1) .last .latitude
+
+pub taken-rows : (g : Grid) (points j : ℕ) → isTaken g points ≡ true → j < g .nj → latitudeOf g j .size ≤ 90065534
+taken-rows g points j e inside =
+    let tests = both (isCounted g points && isCornered g) (isStepped g) e in
+    let front = both (isCounted g points) (isCornered g) (tests .0) in
+    let rows = g .nj - 1 in
+    let spanned = both (isSpanned (g .ni - 1) (g .di) (spanEast g)) (isSpanned rows (g .dj) (spanSouth g)) (tests .1) .1 in
+    let steps = leb-true (rows * g .dj) (spanSouth g + rows) (both (leb (spanSouth g) (rows * g .dj + rows)) (leb (rows * g .dj) (spanSouth g + rows)) spanned .1) in
+    let corners = cornered g (front .1) in
+    let fewer : j * g .dj ≤ rows * g .dj = mul-le-mul-right (g .dj) (omega arith) in
+    let most = south-bound (g .last .latitude) (corners .last .latitude) in
+    at-most (southOf (g .first .latitude) + j * g .dj) (omega (arith, fewer, steps, most, corners .southward, counted g points (front .0) .rows65535))
 
 -- The latitude so far south of the north pole is 90,000,000 less so much.
 latitude-at-is : (south : ℕ) → whole (latitudeAt south) ≡ pos 90000000 -ℤ pos south
