@@ -5,7 +5,7 @@ use mathlib.Core.List.{List}
 use mathlib.Core.Bool.{true, cond}
 use Prim.Native.Nat.{ℕ, _+_, _≤_, _<_}
 use native.Mathlib.Omega.{arith}
-use borrow.Author.Tests.{leb-true, ltb-true}
+use borrow.Author.Tests.{leb-true, ltb-true, ltb-false}
 use lib.Dec.{leb, ltb}
 use lib.ListN.{length, getD}
 use Rattle.octets.proofs.Cases.{apart, split, both}
@@ -28,7 +28,7 @@ use Rattle.question.specs.declared.Asks.{Asks}
 use Rattle.question.specs.declared.Asks.the-variants as Asks
 use Rattle.question.specs.Judged.{Judged}
 use Rattle.question.specs.Describe.{disciplineAt, refusedAt, describedAt, fieldIn, describe}
-use Rattle.question.specs.Judge.{hasRoom, isDecodable, askedOf, judge}
+use Rattle.question.specs.Judge.{hasRoom, isDecodable, descriptionLength, positionLength, askedOf, judge}
 use Rattle.question.proofs.Chain.{at-section-1, at-section-3, at-section-4, at-section-5, at-section-6, at-section-7}
 
 -- A refusal is no description, and a description is one alone.
@@ -163,6 +163,11 @@ module _ (file : List ℕ) (k : ℕ) where
       by : (a : Described) → describe file k ≡ a → (asks : Asks) → Placed (askedOf file asks a)
       by (Described.Refused r) h asks = describe-placed h
       by (Described.As d) h (Asks.Point n) = split (ltb n (pointsOf (d .grid))) (λ i. rw i tt) (λ i. rw i (omega arith))
+      by (Described.As d) h (Asks.Numbers room) = split (ltb room descriptionLength) (λ i. rw i (omega arith)) (λ i. rw i tt)
+      by (Described.As d) h (Asks.Position n room) =
+          split (ltb n (pointsOf (d .grid)))
+          (λ i. split (ltb room positionLength) (λ j. rw (i, j) (omega arith)) (λ j. rw (i, j) tt))
+          (λ i. rw i (omega arith))
       by (Described.As d) h (Asks.Values start values presence) =
           split (hasRoom start (pointsOf (d .grid)) values presence)
           (λ i. split (isDecodable file d) (λ j. rw (i, j) tt) (λ j. rw (i, j) (seven-placed h)))
@@ -184,6 +189,33 @@ module _ (file : List ℕ) (k : ℕ) {d : Description} where
       by (Described.As c) is h =
           split (ltb n (pointsOf (c .grid)))
           (λ i. let same : c ≡ d = one-description (rw i at h) in rw (← same) (is, ltb-true n (pointsOf (c .grid)) i))
+          (λ i. no-description (rw i at h))
+
+  -- What is answered in numbers is answered of a field that is described, and the run is long enough.
+  pub judged-numbers : (room : ℕ) → judge file k (Asks.Numbers room) ≡ Described.As d → (describe file k ≡ Described.As d) × (descriptionLength ≤ room)
+  judged-numbers room = by (describe file k) refl
+    where
+      by : (a : Described) → describe file k ≡ a → askedOf file (Asks.Numbers room) a ≡ Described.As d → (describe file k ≡ Described.As d) × (descriptionLength ≤ room)
+      by (Described.Refused r) is h = no-description h
+      by (Described.As c) is h =
+          split (ltb room descriptionLength)
+          (λ i. no-description (rw i at h))
+          (λ i. let same : c ≡ d = one-description (rw i at h) in rw (← same) (is, ltb-false room descriptionLength i))
+
+  -- What is answered of a position is answered of a field that is described and has the point, and the run is long enough.
+  pub judged-position : (n room : ℕ) → judge file k (Asks.Position n room) ≡ Described.As d →
+      (describe file k ≡ Described.As d) × (n < pointsOf (d .grid)) × (positionLength ≤ room)
+  judged-position n room = by (describe file k) refl
+    where
+      by : (a : Described) → describe file k ≡ a → askedOf file (Asks.Position n room) a ≡ Described.As d →
+          (describe file k ≡ Described.As d) × (n < pointsOf (d .grid)) × (positionLength ≤ room)
+      by (Described.Refused r) is h = no-description h
+      by (Described.As c) is h =
+          split (ltb n (pointsOf (c .grid)))
+          (λ i.
+          split (ltb room positionLength)
+          (λ j. no-description (rw (i, j) at h))
+          (λ j. let same : c ≡ d = one-description (rw (i, j) at h) in rw (← same) (is, ltb-true n (pointsOf (c .grid)) i, ltb-false room positionLength j)))
           (λ i. no-description (rw i at h))
 
   -- What is answered of values is answered of a field that is described, has room, and has its integers in their range.

@@ -42,9 +42,26 @@ valuesAsked file start values presence d =
 abbrev pub pointAsked : ℕ → Description → Described
 pointAsked n d = cond (ltb n (pointsOf (d .grid))) (Described.As d) (refusedAt Why.NoSuchPoint 0)
 
+-- How many numbers tell a description to C, and how many tell a position.
+abbrev pub descriptionLength : ℕ
+descriptionLength = 53
+
+abbrev pub positionLength : ℕ
+positionLength = 2
+
+-- So many numbers are asked, for a run of this length: 15, where it is too short for them.
+abbrev pub numbersAsked : ℕ → ℕ → Description → Described
+numbersAsked numbers room d = cond (ltb room numbers) (refusedAt Why.NoRoom 0) (Described.As d)
+
+-- A position is asked for a run of this length: 17, and 15 behind it.
+abbrev pub positionAsked : ℕ → ℕ → Description → Described
+positionAsked n room d = cond (ltb n (pointsOf (d .grid))) (numbersAsked positionLength room d) (refusedAt Why.NoSuchPoint 0)
+
 -- What is judged beside the description, by what is asked.
 abbrev pub asked : List ℕ → Asks → Description → Described
 asked file (Asks.Point n) d = pointAsked n d
+asked file (Asks.Numbers room) d = numbersAsked descriptionLength room d
+asked file (Asks.Position n room) d = positionAsked n room d
 asked file (Asks.Values start values presence) d = valuesAsked file start values presence d
 
 -- The refusals of describe come first.

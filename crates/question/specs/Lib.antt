@@ -2,4 +2,3 @@
 pub mod Describe
 pub mod Judge
 pub mod Judged
-pub mod Numbers

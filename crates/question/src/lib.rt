@@ -7,7 +7,7 @@ ghost use Rattle.tiling_sections.specs.Laid.{Laid};
 ghost use Rattle.section_3_geometry.specs.Positions.{pointsOf};
 ghost use Rattle.section_7.specs.Packing.{LimitedBy};
 ghost use Rattle.question.specs.Describe.{represented, gridded, describedAt, describe};
-ghost use Rattle.question.specs.Judge.{Known, hasRoom, isDecodable, valuesAsked, asked, judge};
+ghost use Rattle.question.specs.Judge.{Known, hasRoom, isDecodable, valuesAsked, pointAsked, numbersAsked, positionAsked, asked, judge};
 use octets::FilePlace;
 use octets::OctetNumber;
 use refusals::Refusal;
@@ -46,10 +46,15 @@ pub enum Described {
     Refused(Refusal),
 }
 
-// What is asked of a field that is described: one of its points, by its number; or all its values, for which two runs of these lengths are lent from a
-// start index on.
+// What is asked of a field that is described: one of its points, by its number; the numbers of its description, for which a run of this length is lent; where
+// a point lies, with a run for that; or all its values, for which two runs of these lengths are lent from a start index on.
 pub enum Asks {
     Point(usize),
+    Numbers(usize),
+    Position {
+        n: usize,
+        room: usize,
+    },
     Values {
         start: usize,
         values: usize,
@@ -221,19 +226,49 @@ fn values_asked(
     Described::As(description)
 }
 
+// A point of a field that is described: 17.
+fn point_asked(description: Description, n: usize) -> Described
+    requires { ⌜ pointsOf (description .grid) ≤ 16777216 ⌝ }
+    ensures { λ r. ⌜ r ≡ pointAsked n description ⌝ }
+{
+    let grid = description.grid;
+    if n < section_3_geometry::points_of(grid) as usize {
+        return Described::As(description);
+    }
+    refused(Why::NoSuchPoint, FilePlace(0))
+}
+
+// So many numbers for a run of this length: 15.
+fn numbers_asked(description: Description, numbers: usize, room: usize) -> Described
+    ensures { λ r. ⌜ r ≡ numbersAsked numbers room description ⌝ }
+{
+    if room < numbers {
+        return refused(Why::NoRoom, FilePlace(0));
+    }
+    Described::As(description)
+}
+
+// Where a point lies, for a run of this length: 17, and then 15.
+fn position_asked(description: Description, n: usize, room: usize) -> Described
+    requires { ⌜ pointsOf (description .grid) ≤ 16777216 ⌝ }
+    ensures { λ r. ⌜ r ≡ positionAsked n room description ⌝ }
+{
+    let grid = description.grid;
+    if n < section_3_geometry::points_of(grid) as usize {
+        return numbers_asked(description, 2, room);
+    }
+    refused(Why::NoSuchPoint, FilePlace(0))
+}
+
 // What is asked of a field that is described.
 fn asked(file: &[u8], description: Description, asks: Asks) -> Described
     requires { ⌜ Known (now file) description ⌝ }
     ensures { λ r. ⌜ r ≡ asked (now (file .entry)) asks description ⌝ }
 {
     match asks {
-        Asks::Point(n) => {
-            let grid = description.grid;
-            if n < section_3_geometry::points_of(grid) as usize {
-                return Described::As(description);
-            }
-            refused(Why::NoSuchPoint, FilePlace(0))
-        }
+        Asks::Point(n) => point_asked(description, n),
+        Asks::Numbers(room) => numbers_asked(description, 53, room),
+        Asks::Position { n, room } => position_asked(description, n, room),
         Asks::Values {
             start,
             values,
@@ -242,8 +277,8 @@ fn asked(file: &[u8], description: Description, asks: Asks) -> Described
     }
 }
 
-// Judges what is asked of field `k`: its description, where the question is to be answered, or the refusal. Behind 1 to 14 come 17 for a point, and 15
-// and 16 for values.
+// Judges what is asked of field `k`: its description, where the question is to be answered, or the refusal. Behind 1 to 14 come 17 for a point, 15 for numbers,
+// 17 and 15 for a position, and 15 and 16 for values.
 pub fn judge(file: &[u8], k: usize, asks: Asks) -> Described
     ensures { λ r. ⌜ r ≡ judge (now (file .entry)) k asks ⌝ }
 {
