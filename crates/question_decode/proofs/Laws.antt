@@ -15,6 +15,7 @@ use Rattle.tiling.specs.Tiling.{largest}
 use Rattle.section_3_geometry.specs.Positions.{pointsOf}
 use Rattle.section_5.specs.declared.Template.the-variants as Template
 use Rattle.section_6.specs.declared.Marked.the-variants as Marked
+use Rattle.section_6.specs.declared.Presence as declaredPresence
 use Rattle.section_6.specs.declared.Presence.the-variants as Presence
 use Rattle.section_6.specs.Presence.{bitmapIn}
 use Rattle.section_6.proofs.Laws.{marked-own, marked-earlier, present-all, present-own, present-earlier, bitmap-length}
@@ -32,7 +33,7 @@ use Rattle.question.proofs.Laws.{judge-placed, judged-values}
 use Rattle.question.proofs.Known.{located, judged, sections-laid, few-points, simple-template, groups-integers}
 use Rattle.question_decode.specs.declared.Decoded.{Decoded}
 use Rattle.question_decode.specs.declared.Decoded.the-variants as Decoded
-use Rattle.question_decode.specs.Decoding.{packingBy, presentOf, rankOf, doubleOf, doublesOf, marksOf, MarkedBy, outcomeBy, outcome, answerOf}
+use Rattle.question_decode.specs.Decoding.{packingBy, presentOf, rankOf, doubleOf, doublesOf, marksOf, MarkedBy, markedAt, outcomeBy, outcome, answerOf}
 
 module _ (file : List ℕ) (d : Description) (known : Known file d) where
   abbrev run : List ℕ
@@ -89,6 +90,15 @@ module _ (file : List ℕ) (d : Description) (known : Known file d) where
         present = λ i. rw e;
         ranked = λ i. rw e (present-earlier file s points i);
       }
+
+  -- So a bitmap tells it where not all points are present.
+  pub not-all-marked : (d .presence ≡ Presence.All → ⊥) → MarkedBy file d (markedAt (d .presence))
+  not-all-marked some = by (d .presence) refl
+    where
+      by : (p : declaredPresence.Presence) → d .presence ≡ p → MarkedBy file d (markedAt p)
+      by Presence.All e = absurd (some e)
+      by (Presence.Own s) e = own-marked s e
+      by (Presence.Earlier s) e = earlier-marked s e
 
 -- The bitmap has a bit for each point.
 pub marked-room : (file : List ℕ) (d : Description) (s : ℕ) → MarkedBy file d s → pointsOf (d .grid) ≤ 8 * length (bitmapIn file s (pointsOf (d .grid)))

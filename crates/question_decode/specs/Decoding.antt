@@ -14,6 +14,8 @@ use Rattle.doubles.specs.declared.Packing.{Packing}
 use Rattle.doubles.specs.Doubles.{packingOf}
 use Rattle.section_3_geometry.specs.Positions.{pointsOf}
 use Rattle.section_5.specs.declared.Representation.{Representation}
+use Rattle.section_6.specs.declared.Presence.{Presence}
+use Rattle.section_6.specs.declared.Presence.the-variants as Marks
 use Rattle.section_6.specs.Presence.{bitmapLength, bitmapIn, onesBefore, presentAt, presentBefore}
 use Rattle.values_points.specs.Points.{doubleAt}
 use Rattle.question.specs.declared.Description.{Description}
@@ -57,6 +59,12 @@ module _ (file : List ℕ) (d : Description) where
     pub fits : lengthAt file s ≡ bitmapLength (pointsOf (d .grid))
     pub present : (i : ℕ) → presentOf i ≡ bitAt (bitmapIn file s (pointsOf (d .grid))) i
     pub ranked : (i : ℕ) → rankOf i ≡ onesBefore (bitmapIn file s (pointsOf (d .grid))) i
+
+-- Where the section 6 starts that tells which points are present. Where all are, none does.
+abbrev pub markedAt : Presence → ℕ
+markedAt Marks.All = 0
+markedAt (Marks.Own six) = six .0
+markedAt (Marks.Earlier six) = six .0
 
 -- Two runs that have an element for each point of the field.
 abbrev pub Stretch : Description → List Float → List ℕ → Type 0

@@ -8,7 +8,7 @@ ghost use Rattle.doubles.specs.Doubles.{Scaled};
 ghost use Rattle.section_3_geometry.specs.Positions.{pointsOf};
 ghost use Rattle.section_6.specs.declared.Presence.the-variants as Marks;
 ghost use Rattle.question.specs.Judge.{hasRoom};
-ghost use Rattle.question_decode.specs.Decoding.{Decodable, MarkedBy, Stretch, packingBy, doublesOf, marksOf, answer, valuesLeft, presenceLeft};
+ghost use Rattle.question_decode.specs.Decoding.{Decodable, MarkedBy, markedAt, Stretch, packingBy, doublesOf, marksOf, answer, valuesLeft, presenceLeft};
 use doubles::Packing;
 use octets::FilePlace;
 use question::Asks;
@@ -94,6 +94,17 @@ fn fill_marked(
     }
 }
 
+// Where the section 6 starts that tells which points are present, if one does.
+fn marked_at(presence: Presence) -> FilePlace
+    ensures { λ r. ⌜ r .0 ≡ markedAt presence ⌝ }
+{
+    match presence {
+        Presence::All => FilePlace(0),
+        Presence::Own(six) => six,
+        Presence::Earlier(six) => six,
+    }
+}
+
 // Fills it, whichever way tells which points are present.
 fn fill(file: &[u8], description: Description, values: &mut [f64], presence: &mut [u8])
     requires { ⌜ Decodable (now file) description ⌝ }
@@ -102,11 +113,11 @@ fn fill(file: &[u8], description: Description, values: &mut [f64], presence: &mu
     ensures { λ _. ⌜ now (presence .exit) ≡ marksOf (now (file .entry)) description ⌝ }
 {
     let marks = description.presence;
-    match marks {
-        Presence::All => fill_all(file, description, values, presence),
-        Presence::Own(six) => fill_marked(file, description, six, values, presence),
-        Presence::Earlier(six) => fill_marked(file, description, six, values, presence),
-    }
+    // One call of fill_marked is compiled in place, and the description is not copied whole for it.
+    let Presence::All = marks else {
+        return fill_marked(file, description, marked_at(marks), values, presence);
+    };
+    fill_all(file, description, values, presence)
 }
 
 // Decodes a field that is judged, into its stretch of both runs, and answers its point count.

@@ -1,78 +1,58 @@
--- `question_decode::fill` meets its contract: a bitmap of the field's own section and an earlier one tell the points in the same way.
+-- `question_decode::fill` meets its contract: where not all points are present, a bitmap tells which are, the field's own or an earlier one.
+use mathlib.Core.Path.{_≡_}
+use mathlib.Core.Logic.{⊎-elim}
+use native.Mathlib.Omega.{arith}
 use borrow.Author.Needs.{needs}
-use Rattle.question_decode.proofs.Laws.{own-marked, earlier-marked}
+use Rattle.section_6.specs.declared.Presence.the-variants as Presence
+use Rattle.question_decode.proofs.Laws.{not-all-marked}
 use Rattle.question_decode.proofs.fill.Statement.{statement}
 use Rattle.question_decode.proofs.fill.Tie as tie
 
 enum-told : tie.Need-enum-told
 enum-told c = search needs
 
-fill-all-requires : tie.Need-fill-all-requires
-fill-all-requires c κs =
-    let s = c .before .before .before .before .before .before .before in
-    ((s .pre .0, c .before .before .enum-told .given .1), s .pre .1)
-
-enum-known-marks : tie.Need-enum-known-marks
-enum-known-marks c = search needs
+marked-at-requires : tie.Need-marked-at-requires
+marked-at-requires c κs = search needs
 
 fill-marked-requires : tie.Need-fill-marked-requires
 fill-marked-requires c κs =
-    let s = c .before .before .before .before .before .before .before .before in
-    let told = c .before .before .before .marks .given in
-    ((s .pre .0, own-marked (s .args .file .now) (s .args .description) (s .pre .0 .0) (told .0 .0) (told .1)), s .pre .1)
-
-enum-known-marks-2 : tie.Need-enum-known-marks-2
-enum-known-marks-2 c = search needs
-
-fill-marked-requires-2 : tie.Need-fill-marked-requires-2
-fill-marked-requires-2 c κs =
-    let s = c .before .before .before .before .before .before .before .before in
-    let told = c .before .before .before .marks2 .given in
-    ((s .pre .0, earlier-marked (s .args .file .now) (s .args .description) (s .pre .0 .0) (told .0 .0) (told .1)), s .pre .1)
+    let s = c .before .before .before .before .before .before .before in
+    let some : (s .args .description .presence ≡ Presence.All) → ⊥ =
+    λ all. ⊎-elim (λ e. absurd (omega (arith, rw all at e))) (λ e. absurd (omega (arith, rw all at e))) (c .before .before .before .match .keys2) in
+    ((s .pre .0, rw (c .before .before .marked-at .ensures) (not-all-marked (s .args .file .now) (s .args .description) (s .pre .0 .0) some)), s .pre .1)
 
 same-length : tie.Need-same-length
-same-length c = c .before .before .before .values .given
+same-length c = search needs
 
 same-length-2 : tie.Need-same-length-2
-same-length-2 c = c .before .presence .given
+same-length-2 c = search needs
 
 returns : tie.Need-returns
-returns c = c .before .before .before .before .fill-all .ensures
+returns c = search needs
+
+fill-all-requires : tie.Need-fill-all-requires
+fill-all-requires c κs = search needs
 
 same-length-3 : tie.Need-same-length-3
-same-length-3 c = c .before .before .before .values2 .given
+same-length-3 c = search needs
 
 same-length-4 : tie.Need-same-length-4
-same-length-4 c = c .before .presence2 .given
+same-length-4 c = search needs
 
 returns-2 : tie.Need-returns-2
-returns-2 c = c .before .before .before .before .fill-marked .ensures
-
-same-length-5 : tie.Need-same-length-5
-same-length-5 c = c .before .before .before .values3 .given
-
-same-length-6 : tie.Need-same-length-6
-same-length-6 c = c .before .presence3 .given
-
-returns-3 : tie.Need-returns-3
-returns-3 c = c .before .before .before .before .fill-marked2 .ensures
+returns-2 c = search needs
 
 pub fill-spec : {M : Type 1} → statement M
 fill-spec =
     tie.close
     (tie.spec
     enum-told
-    fill-all-requires
-    enum-known-marks
+    marked-at-requires
     fill-marked-requires
-    enum-known-marks-2
-    fill-marked-requires-2
     same-length
     same-length-2
     returns
+    fill-all-requires
     same-length-3
     same-length-4
-    returns-2
-    same-length-5
-    same-length-6
-    returns-3)
+    returns-2)
