@@ -3,7 +3,10 @@ ghost use mathlib.Core.Path.{_≡_};
 ghost use lib.ListN.{length};
 ghost use Rattle.tiling.specs.Tiling.{check};
 ghost use Rattle.question_decode.specs.Decoding.{answer, valuesLeft, presenceLeft};
-ghost use Rattle.skeptolyr.specs.Codes.{checkCode, decodeCode};
+ghost use Rattle.question_numbers.specs.Numbers.{numbersOf};
+ghost use Rattle.skeptolyr.specs.Codes.{checkCode, decodeCode, numbersCode, numbersLeft, positionIn, describedFor, placedFor};
+use question::Asks;
+use question::Described;
 use question_decode::Decoded;
 use tiling::Checked;
 
@@ -34,5 +37,39 @@ pub extern "C" fn skeptolyr_decode(
     match question_decode::decode(file, k, start, values, presence) {
         Decoded::Points(points) => points as u64,
         Decoded::Refused(refusal) => refusals::code_of(refusal),
+    }
+}
+
+// Describes field `k`: puts its numbers at the start of the run and answers how many they are, or 2^63 + number x 2^32 + place.
+#[no_mangle]
+pub extern "C" fn skeptolyr_describe(file: &[u8], k: usize, numbers: &mut [i64]) -> u64
+    ensures { λ r. ⌜ r ≡ numbersCode numbersOf (describedFor (now (file .entry)) k (now (numbers .entry))) ⌝ }
+    ensures { λ _. ⌜ now (numbers .exit) ≡ numbersLeft numbersOf (now (numbers .entry)) (describedFor (now (file .entry)) k (now (numbers .entry))) ⌝ }
+{
+    match question::judge(file, k, Asks::Numbers(numbers.len())) {
+        Described::As(description) => {
+            question_numbers::put_description(numbers, description) as u64
+        }
+        Described::Refused(refusal) => refusals::code_of(refusal),
+    }
+}
+
+// Places point `n` of field `k`: puts its latitude and its longitude at the start of the run and answers 2, or 2^63 + number x 2^32 + place.
+#[no_mangle]
+pub extern "C" fn skeptolyr_place(file: &[u8], k: usize, n: usize, position: &mut [i64]) -> u64
+    ensures { λ r. ⌜ r ≡ numbersCode (positionIn n) (placedFor (now (file .entry)) k n (now (position .entry))) ⌝ }
+    ensures { λ _. ⌜ now (position .exit) ≡ numbersLeft (positionIn n) (now (position .entry)) (placedFor (now (file .entry)) k n (now (position .entry))) ⌝ }
+{
+    let asks = Asks::Position {
+        n,
+        room: position.len(),
+    };
+    match question::judge(file, k, asks) {
+        Described::As(description) => {
+            let grid = description.grid;
+            let lies = section_3_geometry::position_of(grid, n as u32);
+            question_numbers::put_position(position, lies) as u64
+        }
+        Described::Refused(refusal) => refusals::code_of(refusal),
     }
 }

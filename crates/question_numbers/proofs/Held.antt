@@ -1,0 +1,78 @@
+-- The numbers of a field that is described, and of where its points lie, are within what the machine's numbers with a sign hold.
+use mathlib.Core.Path.{_≡_, sym, subst}
+use mathlib.Core.List.{List}
+use Prim.Native.Nat.{ℕ, _/_, _%_, _≤_, _<_}
+use native.Mathlib.Nat.{mod-lt, mul-comm, div-lt-iff-lt-mul}
+use native.Mathlib.Omega.{arith}
+use lib.Dec.{eqb, leb}
+use Rattle.octets.proofs.Cases.{apart, split}
+use Rattle.section.specs.Sections.{octet, held, heldSigned}
+use Rattle.section_3_geometry.specs.Positions.{pointsOf, positionOf}
+use Rattle.section_3_geometry.proofs.Laws.{taken-last, taken-rows}
+use Rattle.section_3.proofs.Laws.{grid-passes}
+use Rattle.section_4.specs.declared.Level as declaredLevel
+use Rattle.section_4.specs.declared.Level.the-variants as Level
+use Rattle.section_4.specs.declared.LevelReading.the-variants as LevelReading
+use Rattle.section_4.specs.Product.{levelAt}
+use Rattle.section_4.proofs.Laws.{defined-tells}
+use Rattle.question.specs.declared.Description.{Description}
+use Rattle.question.specs.declared.Described.the-variants as Described
+use Rattle.question.specs.Describe.{describe}
+use Rattle.question.proofs.Laws.{described, described-laid, described-grid}
+use Rattle.question.proofs.Known.{scaled}
+use Rattle.question_numbers.specs.Held.{factorSize, StartsHeld, Held}
+
+-- One octet holds the factor of a level.
+level-held : (file : List ℕ) (s : ℕ) (level : declaredLevel.Level) → levelAt file s ≡ LevelReading.Is level → factorSize level ≤ 127
+level-held file s level e =
+    split (eqb (octet file s 24) 255)
+    (λ all.
+    split (eqb (held file s 25 28) 0xffff_ffff)
+    (λ ones.
+    let same : Level.Absent ≡ level = cc (rw (all, ones) at e) in
+    subst (λ (x : declaredLevel.Level). factorSize x ≤ 127) same (omega arith))
+    (λ not. apart (cc (rw (all, not) at e))))
+    (λ some.
+    split (leb (held file s 25 28) 2147483647)
+    (λ few.
+    let same : Level.At (heldSigned file s 24 24) (held file s 25 28) ≡ level = cc (rw (some, few) at e) in
+    let small : held file s 24 24 % 128 < 128 = mod-lt (held file s 24 24) (omega arith) in
+    subst (λ (x : declaredLevel.Level). factorSize x ≤ 127) same (omega (arith, small)))
+    (λ many. apart (cc (rw (some, many) at e))))
+
+module _ (file : List ℕ) (k : ℕ) {d : Description} (said : describe file k ≡ Described.As d) where
+  starts-held : StartsHeld (d .starts)
+  starts-held =
+      let known = described file k said in
+      let laid = described-laid file k (known .1) in
+      let few = laid .0 in
+      let all = laid .1 in
+      subst StartsHeld (sym (known .2 .ofStarts))
+      (record {
+        one = omega (arith, few, all .one .room);
+        three = omega (arith, few, all .three .room);
+        four = omega (arith, few, all .four .room);
+        five = omega (arith, few, all .five .room);
+        six = omega (arith, few, all .six .room);
+        seven = omega (arith, few, all .seven .room);
+      })
+
+  pub described-held : Held d
+  described-held =
+      let known = described file k said in
+      let grid = described-grid file k said in
+      let scales = scaled file d (k, said) in
+      record {
+        ofGrid = (grid .0 .latitude, taken-last (d .grid) _ (grid-passes file (known .0 .starts .three .0) (known .2 .ofThree)), grid .1);
+        ofLevel = level-held file (known .0 .starts .four .0) (d .definition .level) (defined-tells file (known .0 .starts .four .0) (d .identification .reference) (known .2 .ofFour) .level);
+        ofRepresentation = (scales .e127, scales .d22);
+        ofStarts = starts-held;
+      }
+
+  -- A point that the field has lies in one of its rows.
+  pub placed-held : (n : ℕ) → n < pointsOf (d .grid) → positionOf (d .grid) n .latitude .size < 9223372036854775808
+  placed-held n inside =
+      let known = described file k said in
+      let g = d .grid in
+      let row : n / g .ni < g .nj = div-lt-iff-lt-mul {k = g .ni} {x = n} {y = g .nj} (described-grid file k said .0 .columns) .1 (omega (arith, inside, mul-comm (g .ni) (g .nj))) in
+      omega (arith, taken-rows g _ (n / g .ni) (grid-passes file (known .0 .starts .three .0) (known .2 .ofThree)) row)

@@ -1,0 +1,3 @@
+-- A description and a position as numbers.
+pub mod Numbers
+pub mod Held

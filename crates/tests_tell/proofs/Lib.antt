@@ -1,2 +1,0 @@
--- How many numbers are put, and in which order.
-mod Laws

@@ -1,2 +1,0 @@
--- What tests are told through C.
-pub mod Tell
