@@ -2,6 +2,7 @@
 use Prim.Native.Nat.{ℕ, zero, suc, _+_, _*_, _^_, _≤_, _<_}
 use mathlib.Core.Path.{_≡_, refl, sym, ap, subst}
 use mathlib.Core.List.{List}
+use native.Mathlib.Nat.{zero-add}
 use native.Mathlib.Omega.{arith}
 use borrow.Author.Tests.{ltb-true, ltb-false}
 use lib.Dec.{ltb}
@@ -21,16 +22,21 @@ use Rattle.question.specs.Describe as Describe
 use Rattle.question_decode.specs.declared.Decoded as declaredDecoded
 use Rattle.question_decode.specs.declared.Decoded.the-variants as Decoded
 use Rattle.question_decode.proofs.Laws.{Small as DecodedSmall, decode-small}
-use Rattle.skeptolyr.specs.Codes.{checkCode, decodeCode}
+use Rattle.question.specs.declared.Asks.the-variants as Asks
+use Rattle.question.specs.Judge.{judge}
+use Rattle.question.proofs.Laws.{judge-placed, judged-numbers, judged-position}
+use Rattle.question_numbers.specs.Numbers.{numbersOf}
+use Rattle.question_numbers.proofs.Laws.{description-length}
+use Rattle.skeptolyr.specs.Codes.{checkCode, decodeCode, numbersCode, numbersLeft, positionIn}
 use Rattle.listing_file.specs.declared.Printout.{Printout}
 use Rattle.listing_file.specs.Listing.{mostOctets, lineOf, linesOf, checkedText, listingOf, Prints}
-use Rattle.theorems_demands.specs.Questions.{Question, verdict, refusedBy, ofChecked, ofDescribed, ofDecoded, check, describe}
+use Rattle.theorems_demands.specs.Questions.{Question, verdict, refusedBy, ofChecked, ofDescribed, ofDecoded, check, describe, describeInto, placeInto}
 use Rattle.theorems_demands.specs.Demand2.{BothRuns, Call, answerTo, leftBehind}
 use Rattle.theorems_demands.proofs.Demand1.{demand-1}
 use Rattle.theorems_demands.proofs.Demand2.{demand-2}
 use Rattle.theorems_demands.proofs.Demand3.{demand-3}
-use Rattle.theorems_outcomes.proofs.Facts.{from-one, from-three}
-use Rattle.theorems_calls.specs.Calls.{Refuses, Checks, decodeOf, runsOf, callOf, DecodeKeeps, Line, Lines, Listed, ListingPrints, Calls, RattleCalls}
+use Rattle.theorems_outcomes.proofs.Facts.{from-one, from-two, from-three}
+use Rattle.theorems_calls.specs.Calls.{Refuses, Checks, decodeOf, runsOf, callOf, DecodeKeeps, DescribeKeeps, PlaceKeeps, Line, Lines, Listed, ListingPrints, Calls, RattleCalls}
 use Rattle.theorems_calls.specs.Calls as Spec
 
 module _ (file : List ℕ) where
@@ -87,6 +93,45 @@ module _ (file : List ℕ) where
       let same : leftBehind file c ≡ left = λ i. record { values = sym v i; presence = sym p i } in
       subst (λ (n : ℕ). DecodeKeeps file c n left) (sym e) (subst (DecodeKeeps file c (decodeCode (answerTo file c))) same (decodes-so c))
 
+  describes-so : (k : ℕ) (before : List ℤ) →
+      let told = judge file k (Asks.Numbers (length before)) in DescribeKeeps file k before (numbersCode numbersOf told) (numbersLeft numbersOf before told)
+  describes-so k before = by (judge file k (Asks.Numbers (length before))) refl
+    where
+      by : (a : declaredDescribed.Described) → judge file k (Asks.Numbers (length before)) ≡ a → DescribeKeeps file k before (numbersCode numbersOf a) (numbersLeft numbersOf before a)
+      by (Described.As d) said =
+          let known = demand-2 file .describes k d .0 (judged-numbers file k (length before) said .0) in
+          record {
+            refused = λ top. absurd (omega (arith, description-length d, top));
+            answered = λ _. demand-1 file .answers (describeInto k (length before)) .0 (ap ofDescribed said);
+            described = λ _. (known .0, d, known .1, known .2, (refl, sym (zero-add (length (numbersOf d)))));
+          }
+      by (Described.Refused r) said =
+          record {
+            refused = λ _. (refuses-so (describeInto k (length before)) r (ap ofDescribed said) (omega (arith, judge-placed file k (Asks.Numbers (length before)) said)), refl);
+            answered = λ below. absurd (omega (arith, below));
+            described = λ below. absurd (omega (arith, below));
+          }
+
+  places-so : (k n : ℕ) (before : List ℤ) →
+      let told = judge file k (Asks.Position n (length before)) in PlaceKeeps file k n before (numbersCode (positionIn n) told) (numbersLeft (positionIn n) before told)
+  places-so k n before = by (judge file k (Asks.Position n (length before))) refl
+    where
+      by : (a : declaredDescribed.Described) → judge file k (Asks.Position n (length before)) ≡ a → PlaceKeeps file k n before (numbersCode (positionIn n) a) (numbersLeft (positionIn n) before a)
+      by (Described.As d) said =
+          let asked = judged-position file k n (length before) said in
+          let known = demand-2 file .describes k d .0 (asked .0) in
+          record {
+            refused = λ top. absurd (omega (arith, top));
+            answered = λ _. demand-1 file .answers (placeInto k n (length before)) .0 (ap ofDescribed said);
+            placed = λ _. (known .0, d, known .1, known .2, asked .1, (refl, refl));
+          }
+      by (Described.Refused r) said =
+          record {
+            refused = λ _. (refuses-so (placeInto k n (length before)) r (ap ofDescribed said) (omega (arith, judge-placed file k (Asks.Position n (length before)) said)), refl);
+            answered = λ below. absurd (omega (arith, below));
+            placed = λ below. absurd (omega (arith, below));
+          }
+
   line-so : (k : ℕ) → Line file k (lineOf file k)
   unfolding lineOf
   line-so k = by (Describe.describe file k) refl
@@ -126,10 +171,24 @@ prints-so run got (negsuc m) before after p h =
       unreadable = λ n same whole read. (h .puts whole read, h .printsTo);
     }
 
+-- What is kept of a number and of a run is kept of those that are known to be these.
+told-by : (Keeps : ℕ → List ℤ → Type 0) {code answer : ℕ} {run left : List ℤ} → answer ≡ code → left ≡ run → Keeps code run → Keeps answer left
+told-by Keeps {code} {answer} {run} {left} e l kept = subst (λ (n : ℕ). Keeps n left) (sym e) (subst (Keeps code) (sym l) kept)
+
 pub calls : Calls
 calls =
     record {
       check = λ _ 𝓤 _ _ _ _ _ given _ answer _. from-one 𝓤 (λ e. subst (Checks (given .0 .now)) (sym e) (checks-so (given .0 .now)));
+      describe =
+          λ _ 𝓤 _ _ _ _ _ given _ answer lasts.
+          from-two 𝓤
+          (λ e left. told-by (DescribeKeeps (given .0 .now) (given .1 .0) (given .1 .1 .0 .now)) e left (describes-so (given .0 .now) (given .1 .0) (given .1 .1 .0 .now)));
+      place =
+          λ _ 𝓤 _ _ _ _ _ given _ answer lasts.
+          from-two 𝓤
+          (λ e left.
+          told-by (PlaceKeeps (given .0 .now) (given .1 .0) (given .1 .1 .0) (given .1 .1 .1 .0 .now)) e left
+          (places-so (given .0 .now) (given .1 .0) (given .1 .1 .0) (given .1 .1 .1 .0 .now)));
       decode =
           λ _ 𝓤 _ _ _ _ _ given _ answer lasts.
           from-three 𝓤

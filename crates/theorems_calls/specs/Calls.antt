@@ -1,5 +1,5 @@
--- The demands of the functions that users call, in the numbers that they are given: what C learns from the one number of skeptolyr_check and of
--- skeptolyr_decode and from its two runs, and what the listing puts.
+-- The demands of the functions that users call, in the numbers that they are given: what C learns from the one number of each of its functions and from the
+-- runs that they leave, and what the listing puts.
 use Prim.Native.Nat.{ℕ, suc, _+_, _*_, _^_, _≤_, _<_}
 use mathlib.Core.Path.{_≡_}
 use mathlib.Core.List.{List, [], _++_}
@@ -8,14 +8,16 @@ use lib.ListN.{length}
 use lib.IntN.{ℤ, pos, negsuc}
 use Rattle.tiling_sections.specs.declared.Located.{Located}
 use Rattle.theorems_grammar.specs.Grammar.{Accepted}
-use Rattle.section_3_geometry.specs.Positions.{pointsOf}
+use Rattle.section_3_geometry.specs.Positions.{pointsOf, positionOf}
 use Rattle.question.specs.declared.Description.{Description}
 use Rattle.question.specs.Judged.{Judged}
-use Rattle.text.specs.Text.{ascii, decimal, Puts}
+use Rattle.laws_rows.specs.Rows.{Puts}
+use Rattle.text.specs.Text.{ascii, decimal}
 use Rattle.listing_lines.specs.Lines.{fieldText}
 use Rattle.listing_file.specs.declared.Printout.{Printout}
 use Rattle.listing_file.specs.Listing.{ReadFrom, unreadableText}
-use Rattle.theorems_demands.specs.Questions.{Question, check, describe, decode}
+use Rattle.question_numbers.specs.Numbers.{positionNumbers, numbersOf}
+use Rattle.theorems_demands.specs.Questions.{Question, check, describe, decode, describeInto, placeInto}
 use Rattle.theorems_demands.specs.Demand1.{FieldAt, Applies, First}
 use Rattle.theorems_demands.specs.Demand2.{BothRuns, Call, Decodes, answerTo, leftBehind}
 use Rattle.theorems_demands.specs.Demand3.{AllNear}
@@ -66,6 +68,21 @@ pub record DecodeKeeps (file : List ℕ) (c : Call) (code : ℕ) (left : BothRun
   -- Demand 3: how near each double is.
   pub near : code < 2 ^ 63 → (d : Description) → Decodes file c left d → AllNear file c left d
 
+-- What a call of skeptolyr_describe has answered, and the run of numbers that it has left.
+pub record DescribeKeeps (file : List ℕ) (k : ℕ) (before : List ℤ) (code : ℕ) (left : List ℤ) : Type 0 where
+  -- Demand 1: it is refused, and no number is altered, or no refusal applies.
+  pub refused : 2 ^ 63 ≤ code → Refuses file (describeInto k (length before)) code × (left ≡ before)
+  pub answered : code < 2 ^ 63 → (number place : ℕ) → Applies file (describeInto k (length before)) number place → ⊥
+  -- Demand 2: the numbers of the description of field k stand at the run's start, all else is as it was, and their count is the answer.
+  pub described : code < 2 ^ 63 → (l : Located) × (d : Description) × FieldAt file k l × Judged file l d × Puts before 0 (numbersOf d) left code
+
+-- What a call of skeptolyr_place has answered, and the run that it has left, in the same way.
+pub record PlaceKeeps (file : List ℕ) (k n : ℕ) (before : List ℤ) (code : ℕ) (left : List ℤ) : Type 0 where
+  pub refused : 2 ^ 63 ≤ code → Refuses file (placeInto k n (length before)) code × (left ≡ before)
+  pub answered : code < 2 ^ 63 → (number place : ℕ) → Applies file (placeInto k n (length before)) number place → ⊥
+  -- Demand 2: field k has the point, and these are its latitude and its longitude.
+  pub placed : code < 2 ^ 63 → (l : Located) × (d : Description) × FieldAt file k l × Judged file l d × (n < pointsOf (d .grid)) × Puts before 0 (positionNumbers (positionOf (d .grid) n)) left code
+
 -- RULES, "Listing": how a refusal is told, and the line of field k.
 abbrev pub toldAs : ℕ → ℕ → List ℕ
 toldAs number place = ascii "refused " ++ decimal number ++ ascii " at " ++ decimal place
@@ -103,10 +120,17 @@ runsOf values presence = record { values = values; presence = presence }
 abbrev pub callOf : ℕ → ℕ → BothRuns → Call
 callOf k start before = record { k = k; start = start; before = before }
 
--- The promises, of the contracts that the checker proves of the functions. What is given are their parameters in order: of decode file, k, start, values and
--- presence; of list the text and the input; of print the text, the run that was read into, and the two answers of reading.
+-- The promises, of the contracts that the checker proves of the functions. What is given are their parameters in order: of describe file, k and the run; of
+-- place file, k, n and the run; of decode file, k, start, values and presence; of list the text and the input; of print the text, the run that was read
+-- into, and the two answers of reading.
 pub record Calls : Type 2 where
   pub check : Promises skeptolyr.skeptolyr_check.ended (λ _. skeptolyr.skeptolyr_check.clauses) (λ _ given answer _. Checks (given .0 .now) answer)
+  pub describe :
+      Promises skeptolyr.skeptolyr_describe.ended (λ _. skeptolyr.skeptolyr_describe.clauses)
+      (λ _ given answer lasts. DescribeKeeps (given .0 .now) (given .1 .0) (given .1 .1 .0 .now) answer (lasts .1 .1 .0))
+  pub place :
+      Promises skeptolyr.skeptolyr_place.ended (λ _. skeptolyr.skeptolyr_place.clauses)
+      (λ _ given answer lasts. PlaceKeeps (given .0 .now) (given .1 .0) (given .1 .1 .0) (given .1 .1 .1 .0 .now) answer (lasts .1 .1 .1 .0))
   pub decode :
       Promises skeptolyr.skeptolyr_decode.ended (λ _. skeptolyr.skeptolyr_decode.clauses)
       (λ _ given answer lasts.

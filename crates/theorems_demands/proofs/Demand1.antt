@@ -58,14 +58,14 @@ use Rattle.question.specs.declared.Asks.{Asks}
 use Rattle.question.specs.declared.Asks.the-variants as Asks
 use Rattle.question.specs.Describe as Describe
 use Rattle.question.specs.Describe.{refusedAt, packed, marked, represented, defined, gridded, describedAt, fieldIn}
-use Rattle.question.specs.Judge.{integerOf, isDecodable, hasRoom, valuesAsked, pointAsked, askedOf, judge}
+use Rattle.question.specs.Judge.{integerOf, isDecodable, hasRoom, valuesAsked, pointAsked, descriptionLength, positionLength, numbersAsked, positionAsked, askedOf, judge}
 use Rattle.question.specs.Judged.{Judged}
 use Rattle.question.proofs.Laws.{described, described-judged, room-fits}
 use Rattle.question.proofs.Chain.{at-section-1, at-section-3, at-section-4, at-section-5, at-section-6, at-section-7}
 use Rattle.question_place.specs.Place.{placedBy}
 use Rattle.question_decode.specs.Decoding.{Outcome, gives, refuses, outcomeBy, outcome, answerOf, valuesAfter, presenceAfter}
-use Rattle.theorems_demands.specs.Questions.{Question, Verdict, ofChecked, ofDescribed, ofPlaced, ofDecoded, verdict, check, describe, place, decode, answered, refused, refusedBy}
-use Rattle.theorems_demands.specs.Demand1.{FieldAt, Names, describes, places, decodes, About, AsksPoint, asks, Lends, lends, Fault, Applies, First, Demand1}
+use Rattle.theorems_demands.specs.Questions.{Question, Verdict, ofChecked, ofDescribed, ofPlaced, ofDecoded, verdict, check, describe, place, decode, describeInto, placeInto, answered, refused, refusedBy}
+use Rattle.theorems_demands.specs.Demand1.{FieldAt, Names, describes, places, decodes, describesInto, placesInto, About, AsksPoint, asks, asksInto, Lends, lends, LendsNumbers, forDescription, forPosition, Fault, Applies, First, Demand1}
 use Rattle.theorems_demands.specs.Demand1 as Spec
 
 -- Where a refusal stands in the order.
@@ -236,6 +236,8 @@ module _ (file : List ℕ) where
   asked describes e = rw e
   asked places e = rw e
   asked decodes e = rw e
+  asked describesInto e = rw e
+  asked placesInto e = rw e
 
   caught-by : {q : Question} {l : Located} {s : Refusal} → About file q l → CaughtIn s (describedAt file l) → Caught file q s
   caught-by about caught = (caught .0, asked (about .names) (described-is (about .lies) ∙ caught .1), caught .2)
@@ -244,6 +246,8 @@ module _ (file : List ℕ) where
   file-refused {r} check bad = rw (check-refuses file r .1 bad)
   file-refused {r} (describe k) bad = asked describes (ap (fieldIn file k) (refuses-so file r .1 bad))
   file-refused {r} (place k n) bad = asked places (ap (fieldIn file k) (refuses-so file r .1 bad))
+  file-refused {r} (describeInto k room) bad = asked describesInto (ap (fieldIn file k) (refuses-so file r .1 bad))
+  file-refused {r} (placeInto k n room) bad = asked placesInto (ap (fieldIn file k) (refuses-so file r .1 bad))
   file-refused {r} (decode k start values presence) bad = asked decodes (ap (fieldIn file k) (refuses-so file r .1 bad))
 
   no-field : (k : ℕ) {m : ℕ} (fs : List Located) → tilingOf file ≡ Tiling.tiled m fs → length fs ≤ k → Describe.describe file k ≡ refusedAt Why.NoSuchField 0
@@ -264,18 +268,50 @@ module _ (file : List ℕ) where
           ap (λ (a : Described). ofDecoded (answerOf (outcomeBy file (askedOf file (Asks.Values start values presence) a)))) (described-is at ∙ said)
           ∙ ap (λ (a : Described). ofDecoded (answerOf (outcomeBy file a))) e
 
+  -- Of a field that does not have the point.
   placed-as :
-      {q : Question} {l : Located} {d : Description} {r : Refusal} {n : ℕ} →
+      {q : Question} {l : Located} {d : Description} {n : ℕ} →
       About file q l →
       AsksPoint q n →
       describedAt file l ≡ Described.As d →
-      pointAsked n d ≡ Described.Refused r →
-      verdict file q ≡ refusedBy r
-  placed-as {l = l} {r = r} about (asks {k} {n}) said e = by (about .names) (about .lies)
+      ltb n (pointsOf (d .grid)) ≡ false →
+      verdict file q ≡ refused 17 0
+  placed-as {l = l} {d = d} about (asks {k} {n}) said e = by (about .names) (about .lies)
     where
-      by : {j : ℕ} → Names (place k n) j → FieldAt file j l → verdict file (place k n) ≡ refusedBy r
-      by places at =
-          ap (λ (a : Described). ofPlaced (placedBy n (askedOf file (Asks.Point n) a))) (described-is at ∙ said) ∙ ap (λ (a : Described). ofPlaced (placedBy n a)) e
+      by : {j : ℕ} → Names (place k n) j → FieldAt file j l → verdict file (place k n) ≡ refused 17 0
+      by places at = ap (λ (a : Described). ofPlaced (placedBy n (askedOf file (Asks.Point n) a))) (described-is at ∙ said) ∙ rw e
+  placed-as {l = l} {d = d} about (asksInto {k} {n} {room}) said e = by (about .names) (about .lies)
+    where
+      by : {j : ℕ} → Names (placeInto k n room) j → FieldAt file j l → verdict file (placeInto k n room) ≡ refused 17 0
+      by placesInto at = ap (λ (a : Described). ofDescribed (askedOf file (Asks.Position n room) a)) (described-is at ∙ said) ∙ rw e
+
+  -- 15: the run is too short for the numbers. Of a field that does not have the point, 17 comes before it.
+  short :
+      {q : Question} {l : Located} {needed room : ℕ} →
+      About file q l →
+      LendsNumbers q needed room →
+      room < needed →
+      Caught file q (refusal Why.NoRoom 0)
+  short {q} {l} about lent few = by (described-or file l (refusal Why.NoRoom 0) (omega (arith, in-order)))
+    where
+      told-short : {k room : ℕ} {d : Description} → room < 53 → {j : ℕ} → Names (describeInto k room) j → FieldAt file j l → describedAt file l ≡ Described.As d → verdict file (describeInto k room) ≡ refused 15 0
+      told-short {room = room} less describesInto at said = ap (λ (a : Described). ofDescribed (askedOf file (Asks.Numbers room) a)) (described-is at ∙ said) ∙ rw (lt-ltb room 53 less)
+
+      placed-short : {k n room : ℕ} {d : Description} → room < 2 → {j : ℕ} → Names (placeInto k n room) j → FieldAt file j l → describedAt file l ≡ Described.As d → ltb n (pointsOf (d .grid)) ≡ true →
+          verdict file (placeInto k n room) ≡ refused 15 0
+      placed-short {n = n} {room = room} less placesInto at said there =
+          ap (λ (a : Described). ofDescribed (askedOf file (Asks.Position n room) a)) (described-is at ∙ said) ∙ rw (there, lt-ltb room 2 less)
+
+      lacking : {q : Question} {needed room : ℕ} (d : Description) → About file q l → LendsNumbers q needed room → room < needed → describedAt file l ≡ Described.As d → Caught file q (refusal Why.NoRoom 0)
+      lacking d about forDescription less said = (refusal Why.NoRoom 0, told-short less (about .names) (about .lies) said, inl refl)
+      lacking d about (forPosition {k} {n} {room}) less said =
+          split (ltb n (pointsOf (d .grid)))
+          (λ there. (refusal Why.NoRoom 0, placed-short less (about .names) (about .lies) said there, inl refl))
+          (λ beyond. (refusal Why.NoSuchPoint 0, placed-as about (asksInto {k = k} {n = n} {room = room}) said beyond, inr (omega (arith, in-order))))
+
+      by : CaughtOr file l (refusal Why.NoRoom 0) (describedAt file l) → Caught file q (refusal Why.NoRoom 0)
+      by (inl caught) = caught-by about caught
+      by (inr (d, said)) = lacking d about lent few said
 
   -- 15: there is no room.
   full :
@@ -339,7 +375,7 @@ module _ (file : List ℕ) where
       by (inr (d, said)) =
           let of-grid = described-judged file l d said .ofThree in
           let same : g ≡ d .grid = cc in
-          (refusal Why.NoSuchPoint 0, placed-as {r = refusal Why.NoSuchPoint 0} about asked-point said (rw (le-ltb n (pointsOf (d .grid)) (rw (sym same) few))), inl refl)
+          (refusal Why.NoSuchPoint 0, placed-as about asked-point said (le-ltb n (pointsOf (d .grid)) (rw (sym same) few)), inl refl)
 
   -- 3 to 7: a fault of the tiling comes behind 1 alone.
   faulted : (q : Question) {why : declaredWhy.Why} {place : ℕ} → Fault file why place → Caught file q (refusal why place)
@@ -366,6 +402,7 @@ module _ (file : List ℕ) where
   caught {q} (Spec.section-6 {l} about of-three of-five fails) = told file q (refusal Why.BadBitmap (l .starts .six .0)) (caught-by about (caught-6 file l of-three of-five fails))
   caught {q} (Spec.section-7 {l} about of-five fails) = told file q (refusal Why.BadPacking (l .starts .seven .0)) (caught-by about (caught-7 file l of-five fails))
   caught {q} (Spec.no-room {start = start} {values = values} {presence = presence} about lent of-three fits) = told file q (refusal Why.NoRoom 0) (full start values presence about lent of-three fits)
+  caught {q} (Spec.no-room-for-numbers about lent few) = told file q (refusal Why.NoRoom 0) (short about lent few)
   caught {q} (Spec.out-of-range {l} {start = start} {values = values} {presence = presence} {m = m} about lent of-five among outside) =
       told file q (refusal Why.ValueOutOfRange (l .starts .seven .0)) (out start values presence m about lent of-five among outside)
   caught {q} (Spec.no-such-point about asked-point of-three few) = told file q (refusal Why.NoSuchPoint 0) (beyond about asked-point of-three few)
@@ -446,6 +483,22 @@ module _ (file : List ℕ) where
       (λ there. rw there (λ r same. apart cc))
       (λ behind. rw behind (explain (Spec.no-such-point (record { k = k; names = places; lies = at .1 }) asks (at .2 .ofThree) (ltb-false n _ behind))))
 
+  numbers-applies : (k room : ℕ) (d : Description) → Describe.describe file k ≡ Described.As d → Explained (describeInto k room) (numbersAsked descriptionLength room d)
+  numbers-applies k room d said =
+      split (ltb room descriptionLength)
+      (λ few. rw few (explain (Spec.no-room-for-numbers (record { k = k; names = describesInto; lies = described-at k said .1 }) forDescription (ltb-true room descriptionLength few))))
+      (λ enough. rw enough (λ r same. apart cc))
+
+  position-applies : (k n room : ℕ) (d : Description) → Describe.describe file k ≡ Described.As d → Explained (placeInto k n room) (positionAsked n room d)
+  position-applies k n room d said =
+      let at = described-at k said in
+      split (ltb n (pointsOf (d .grid)))
+      (λ there.
+      split (ltb room positionLength)
+      (λ few. rw (there, few) (explain (Spec.no-room-for-numbers (record { k = k; names = placesInto; lies = at .1 }) forPosition (ltb-true room positionLength few))))
+      (λ enough. rw (there, enough) (λ r same. apart cc)))
+      (λ behind. rw behind (explain (Spec.no-such-point (record { k = k; names = placesInto; lies = at .1 }) asksInto (at .2 .ofThree) (ltb-false n _ behind))))
+
   stretch-applies : (k start values presence : ℕ) (d : Description) → Describe.describe file k ≡ Described.As d → Explained (decode k start values presence) (valuesAsked file start values presence d)
   stretch-applies k start values presence d said =
       let at = described-at k said in
@@ -495,6 +548,16 @@ module _ (file : List ℕ) where
       by : (a : Described) → judge file k (Asks.Values start values presence) ≡ a → ofDecoded (answerOf (outcomeBy file a)) ≡ refused m p → Applies file (decode k start values presence) m p
       by (Described.As d) said e = clash-verdict e
       by (Described.Refused f) said e = told-applies f e (judged-applies decodes (Asks.Values start values presence) (stretch-applies k start values presence) f said)
+  applies-of {m} {p} (describeInto k room) e = by (judge file k (Asks.Numbers room)) refl e
+    where
+      by : (a : Described) → judge file k (Asks.Numbers room) ≡ a → ofDescribed a ≡ refused m p → Applies file (describeInto k room) m p
+      by (Described.As d) said e = clash-verdict e
+      by (Described.Refused f) said e = told-applies f e (judged-applies describesInto (Asks.Numbers room) (numbers-applies k room) f said)
+  applies-of {m} {p} (placeInto k n room) e = by (judge file k (Asks.Position n room)) refl e
+    where
+      by : (a : Described) → judge file k (Asks.Position n room) ≡ a → ofDescribed a ≡ refused m p → Applies file (placeInto k n room) m p
+      by (Described.As d) said e = clash-verdict e
+      by (Described.Refused f) said e = told-applies f e (judged-applies placesInto (Asks.Position n room) (position-applies k n room) f said)
 
 pub demand-1 : (file : List ℕ) → Demand1 file
 demand-1 file =

@@ -1,10 +1,11 @@
 -- The proof that the number of each case of a description is what the octets of the field's sections hold.
 use Prim.Native.Nat.{ℕ}
-use mathlib.Core.Path.{_≡_, refl, sym, subst}
+use mathlib.Core.Path.{_≡_, refl, sym, ap, subst}
 use mathlib.Core.Bool.{Bool, true, false, _&&_, _||_}
 use mathlib.Core.List.{List}
 use borrow.Author.Tests.{eqb-true, eqb-false}
 use lib.Dec.{eqb, leb, ltb}
+use lib.IntN.{pos}
 use lib.ListN.{getD}
 use Rattle.octets.specs.Places.{at, placeOf}
 use Rattle.octets.proofs.Cases.{apart, split, both}
@@ -47,7 +48,7 @@ use Rattle.section_6.specs.declared.Marked.{Marked}
 use Rattle.section_6.specs.declared.Marked.the-variants as Marked
 use Rattle.section_6.specs.Presence.{isBitmap, ownAt, earlierAt, allOf, presenceAt, indicatorOf}
 use Rattle.question.specs.declared.Description.{Description}
-use Rattle.question.specs.Numbers.{levelNumbers, kindNumber, productNumbers}
+use Rattle.question_numbers.specs.Numbers.{levelNumbers, kindNumber, productNumbers}
 use Rattle.question.specs.Judged.{Judged}
 use Rattle.theorems_demands.specs.Numbers.{levelHeld, InNumbers}
 
@@ -131,7 +132,7 @@ module _ (file : List ℕ) (s : ℕ) where
       (λ ones.
       let same : Level.Absent ≡ level = cc (rw (all, ones) at e) in
       subst (λ (x : declaredLevel.Level). levelNumbers x ≡ levelHeld file s) same
-      (rw (all, eqb-true (octet file s 24) 255 all, eqb-true (held file s 25 28) 0xffff_ffff ones)))
+      (rw all))
       (λ not. apart (cc (rw (all, not) at e))))
       (λ some.
       split (leb (held file s 25 28) 2147483647)
@@ -153,7 +154,7 @@ module _ (file : List ℕ) (s : ℕ) where
 
   -- The kind, or that there is none, and the template that goes with it.
   pub record ByOctets (p : declaredProduct.Product) : Type 0 where
-    pub template : isTemplate file s ≡ true → getD (productNumbers p) 0 0 ≡ productTemplateAt file s
+    pub template : isTemplate file s ≡ true → getD (productNumbers p) 0 (pos 0) ≡ pos (productTemplateAt file s)
     pub kind : (end : Time) (kind : Kind) → p ≡ Product.Interval end kind → kindNumber kind ≡ octet file s 47
 
   interval-by : (valid : Time) (k : Kind) {p : declaredProduct.Product} →
@@ -166,7 +167,7 @@ module _ (file : List ℕ) (s : ℕ) where
             λ test.
             either (eqb (lengthAt file s) 34 && eqb (productTemplateAt file s) 0) (eqb (lengthAt file s) 58 && eqb (productTemplateAt file s) 8) test
             (λ simple. absurd (other (eqb-true (productTemplateAt file s) 0 (both (eqb (lengthAt file s) 34) (eqb (productTemplateAt file s) 0) simple .1))))
-            (λ eight. sym (eqb-true (productTemplateAt file s) 8 (both (eqb (lengthAt file s) 58) (eqb (productTemplateAt file s) 8) eight .1)));
+            (λ eight. ap pos (sym (eqb-true (productTemplateAt file s) 8 (both (eqb (lengthAt file s) 58) (eqb (productTemplateAt file s) 8) eight .1))));
         kind = λ end kind same. let alike : k ≡ kind = cc in subst (λ (x : Kind). kindNumber x ≡ octet file s 47) alike is;
       })
 
@@ -175,7 +176,7 @@ module _ (file : List ℕ) (s : ℕ) where
       split (eqb (productTemplateAt file s) 0)
       (λ zero.
       let same : Product.Instant ≡ p = cc (rw zero at e) in
-      subst ByOctets same (record { template = λ _. sym (eqb-true _ _ zero); kind = λ end kind same. apart cc }))
+      subst ByOctets same (record { template = λ _. ap pos (sym (eqb-true _ _ zero)); kind = λ end kind same. apart cc }))
       (λ other.
       split (eqb (octet file s 42) 1)
       (λ one.

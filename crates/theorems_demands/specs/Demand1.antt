@@ -29,7 +29,7 @@ use Rattle.doubles.specs.Doubles as Doubles
 use Rattle.values_integers.specs.Integers.{integerAt}
 use Rattle.question.specs.Judged.{identificationOf, gridOf, productOf, representationOf, presenceOf, dataOf}
 use Rattle.question_decode.specs.Decoding.{valuesLeft, presenceLeft}
-use Rattle.theorems_demands.specs.Questions.{Question, verdict, describe, place, decode, answered, refused}
+use Rattle.theorems_demands.specs.Questions.{Question, verdict, describe, place, decode, describeInto, placeInto, answered, refused}
 
 -- Field k of the file lies at l: the grammar accepts the file, and l is the place of its field k, counted from 0 over all messages.
 pub record FieldAt (file : List ℕ) (k : ℕ) (l : Located) : Type 0 where
@@ -44,6 +44,8 @@ pub data Names : Question → ℕ → Type 0 where
   describes : {k : ℕ} → Names (describe k) k
   places : {k n : ℕ} → Names (place k n) k
   decodes : {k start values presence : ℕ} → Names (decode k start values presence) k
+  describesInto : {k room : ℕ} → Names (describeInto k room) k
+  placesInto : {k n room : ℕ} → Names (placeInto k n room) k
 
 -- It is about the field of that number, which lies at l.
 pub record About (file : List ℕ) (q : Question) (l : Located) : Type 0 where
@@ -51,12 +53,18 @@ pub record About (file : List ℕ) (q : Question) (l : Located) : Type 0 where
   pub names : Names q k
   pub lies : FieldAt file k l
 
--- What else a question asks: the point that is to be placed, or the start index and the lengths of the runs.
+-- What else a question asks: the point that is to be placed, the start index and the lengths of the runs, or how many numbers are needed and for how many
+-- there is room: a description has 53, and a position 2.
 pub data AsksPoint : Question → ℕ → Type 0 where
   asks : {k n : ℕ} → AsksPoint (place k n) n
+  asksInto : {k n room : ℕ} → AsksPoint (placeInto k n room) n
 
 pub data Lends : Question → ℕ → ℕ → ℕ → Type 0 where
   lends : {k start values presence : ℕ} → Lends (decode k start values presence) start values presence
+
+pub data LendsNumbers : Question → (needed room : ℕ) → Type 0 where
+  forDescription : {k room : ℕ} → LendsNumbers (describeInto k room) 53 room
+  forPosition : {k n room : ℕ} → LendsNumbers (placeInto k n room) 2 room
 
 -- The first fault in the order of the file: messages tile it up to p, and what stands there is none.
 pub record Fault (file : List ℕ) (why : declaredWhy.Why) (place : ℕ) : Type 0 where
@@ -114,6 +122,8 @@ pub data Applies (file : List ℕ) (q : Question) : (number place : ℕ) → Typ
       gridOf file l ≡ Gridded.On g →
       ((start + pointsOf g ≤ values) × (start + pointsOf g ≤ presence) → ⊥) →
       Applies file q 15 0
+  -- The run is too short for the numbers.
+  no-room-for-numbers : {l : Located} {needed room : ℕ} → About file q l → LendsNumbers q needed room → room < needed → Applies file q 15 0
   -- One of the N integers X that decode rebuilds is below 0 or above 2,147,483,647.
   out-of-range :
       {l : Located} {r : Representation} {start values presence m : ℕ} →

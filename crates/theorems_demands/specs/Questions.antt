@@ -9,7 +9,9 @@ use Rattle.tiling.specs.declared.Checked.the-variants as Checked
 use Rattle.tiling.specs.Tiling as Tiling
 use Rattle.question.specs.declared.Described.{Described}
 use Rattle.question.specs.declared.Described.the-variants as Described
+use Rattle.question.specs.declared.Asks.the-variants as Asks
 use Rattle.question.specs.Describe as Describe
+use Rattle.question.specs.Judge.{judge}
 use Rattle.question_place.specs.declared.Placed.{Placed}
 use Rattle.question_place.specs.declared.Placed.the-variants as Placed
 use Rattle.question_place.specs.Place as Place
@@ -17,12 +19,15 @@ use Rattle.question_decode.specs.declared.Decoded.{Decoded}
 use Rattle.question_decode.specs.declared.Decoded.the-variants as Decoded
 use Rattle.question_decode.specs.Decoding.{answer}
 
--- Check the file; describe field k; place point n of field k; decode field k from a start index on, into runs of these two lengths.
+-- Check the file; describe field k; place point n of field k; decode field k from a start index on, into runs of these two lengths. C has field k described
+-- and point n of it placed into a run of so many numbers.
 pub data Question : Type 0 where
   check : Question
   describe : (k : ℕ) → Question
   place : (k n : ℕ) → Question
   decode : (k start values presence : ℕ) → Question
+  describeInto : (k room : ℕ) → Question
+  placeInto : (k n room : ℕ) → Question
 
 -- What comes of a question: a full answer, or a refusal, which is told by its number and its place.
 pub data Verdict : Type 0 where
@@ -53,3 +58,5 @@ verdict file check = ofChecked (Tiling.check file)
 verdict file (describe k) = ofDescribed (Describe.describe file k)
 verdict file (place k n) = ofPlaced (Place.place file k n)
 verdict file (decode k start values presence) = ofDecoded (answer file k start values presence)
+verdict file (describeInto k room) = ofDescribed (judge file k (Asks.Numbers room))
+verdict file (placeInto k n room) = ofDescribed (judge file k (Asks.Position n room))

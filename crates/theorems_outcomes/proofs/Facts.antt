@@ -30,6 +30,9 @@ module _ {M : Type 1} (𝓤 : URA M) where
   pub from-one : {φ χ : Type 0} → (φ → χ) → holds φ ⊢ holds χ
   from-one {φ} {χ} f = fact-use 𝓤 φ (id⊢ 𝓤 (holds φ)) (λ x. factI 𝓤 χ (holds φ) (f x))
 
+  pub from-two : {φ φ' χ : Type 0} → (φ → φ' → χ) → holds φ ∗ holds φ' ⊢ holds χ
+  from-two {φ} {φ'} = follows (id⊢ 𝓤 (holds φ)) (id⊢ 𝓤 (holds φ'))
+
   pub from-three : {φ φ' φ'' χ : Type 0} → (φ → φ' → φ'' → χ) → holds φ ∗ holds φ' ∗ holds φ'' ⊢ holds χ
   from-three {φ} {φ'} {φ''} f =
       follows {ψ = φ' × φ''} (id⊢ 𝓤 (holds φ)) (follows (id⊢ 𝓤 (holds φ')) (id⊢ 𝓤 (holds φ'')) (λ y z. (y, z))) (λ x others. f x (others .0) (others .1))

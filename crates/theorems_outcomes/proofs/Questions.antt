@@ -3,10 +3,10 @@ use mathlib.Core.Path.{refl}
 use Rattle.theorems_outcomes.specs.Determined.{Determined}
 use Rattle.theorems_outcomes.proofs.Facts.{alike, one, two, three}
 use Rattle.question.proofs as question
+use Rattle.question_numbers.proofs as question-numbers
 use Rattle.question_place.proofs as question-place
 use Rattle.question_decode.proofs as question-decode
 use Rattle.skeptolyr.proofs as skeptolyr
-use Rattle.tests_tell.proofs as tests-tell
 use Rattle.listing_lines.proofs as listing-lines
 use Rattle.listing_file.proofs as listing-file
 use Rattle.listing_file.proofs.Laws.{print-one}
@@ -35,11 +35,18 @@ skeptolyr-skeptolyr-decode _ 𝓤 _ _ _ _ _ _ _ _ _ _ _ _ =
     three 𝓤 (λ p q. (alike (p .0) (q .0), λ i. (tt, (tt, (tt, (alike (p .1 .0) (q .1 .0) i, (alike (p .1 .1) (q .1 .1) i, tt)))))))
 
 -- What C is answered, and the run of numbers afterwards.
-pub tests-tell-tell-describe : Determined tests-tell.tell_describe.ended (λ _. tests-tell.tell_describe.clauses)
-tests-tell-tell-describe _ 𝓤 _ _ _ _ _ _ _ _ _ _ _ _ = two 𝓤 (λ p q. (alike (p .0) (q .0), λ i. (tt, (tt, (alike (p .1) (q .1) i, tt)))))
+pub skeptolyr-skeptolyr-describe : Determined skeptolyr.skeptolyr_describe.ended (λ _. skeptolyr.skeptolyr_describe.clauses)
+skeptolyr-skeptolyr-describe _ 𝓤 _ _ _ _ _ _ _ _ _ _ _ _ = two 𝓤 (λ p q. (alike (p .0) (q .0), λ i. (tt, (tt, (alike (p .1) (q .1) i, tt)))))
 
-pub tests-tell-tell-place : Determined tests-tell.tell_place.ended (λ _. tests-tell.tell_place.clauses)
-tests-tell-tell-place _ 𝓤 _ _ _ _ _ _ _ _ _ _ _ _ = two 𝓤 (λ p q. (alike (p .0) (q .0), λ i. (tt, (tt, (tt, (alike (p .1) (q .1) i, tt))))))
+pub skeptolyr-skeptolyr-place : Determined skeptolyr.skeptolyr_place.ended (λ _. skeptolyr.skeptolyr_place.clauses)
+skeptolyr-skeptolyr-place _ 𝓤 _ _ _ _ _ _ _ _ _ _ _ _ = two 𝓤 (λ p q. (alike (p .0) (q .0), λ i. (tt, (tt, (tt, (alike (p .1) (q .1) i, tt))))))
+
+-- The numbers of a description and of a position, put into a lent run: where they end, and what the run holds afterwards.
+pub question-numbers-put-description : Determined question-numbers.put_description.ended (λ _. question-numbers.put_description.clauses)
+question-numbers-put-description _ 𝓤 _ _ _ _ _ _ _ _ _ _ _ _ = one 𝓤 (λ p q. (alike (p .1) (q .1), λ i. (alike (p .0) (q .0) i, (tt, tt))))
+
+pub question-numbers-put-position : Determined question-numbers.put_position.ended (λ _. question-numbers.put_position.clauses)
+question-numbers-put-position _ 𝓤 _ _ _ _ _ _ _ _ _ _ _ _ = one 𝓤 (λ p q. (alike (p .1) (q .1), λ i. (alike (p .0) (q .0) i, (tt, tt))))
 
 -- What a line says, put into a lent run: where it ends, and what the run holds afterwards.
 pub listing-lines-put-refusal : Determined listing-lines.put_refusal.ended (λ _. listing-lines.put_refusal.clauses)
