@@ -1,11 +1,13 @@
 /* Skeptolyr reads weather files in the format GRIB2 (FM 92 GRIB edition 2), as the Japan Meteorological Agency writes them. This is its manual.
  *
  * A file is an array of octets (bytes of 8 bits) in memory. It holds one message or several, a message holds one field or several, and a field is
- * one quantity, such as a temperature, at the points of a grid. There are two questions:
+ * one quantity, such as a temperature, at the points of a grid. There are four questions:
  *   - skeptolyr_check asks whether a file is whole, and how many messages and fields it has.
+ *   - skeptolyr_describe asks what one field is: its quantity, times, level, grid and packing, and how much room its values need.
  *   - skeptolyr_decode asks for the values of one field.
+ *   - skeptolyr_place asks where one point of a field lies.
  *
- * Each of them returns one number of 64 bits, which is the full answer or a refusal. A refusal has a number from 1 to 16, which says what is wrong,
+ * Each of them returns one number of 64 bits, which is the full answer or a refusal. A refusal has a number from 1 to 17, which says what is wrong,
  * and a place, which says where in the file. There is nothing between the two: a file or a field that breaks a rule is never read as if it were
  * good, and no part of a field is given. The inline functions of the header take an answer apart, and put a refusal into words:
  *
@@ -15,6 +17,13 @@
  *                 (unsigned)skeptolyr_refusal_number(answer),
  *                 (unsigned)skeptolyr_refusal_place(answer),
  *                 skeptolyr_refusal_text(skeptolyr_refusal_number(answer)));
+ *
+ * Two more inline functions give a description and a position by name, so that a program reads `field.ni`, `field.valid` and `field.level`:
+ *
+ *     struct skeptolyr_field field;
+ *     uint64_t answer = skeptolyr_describe_field(file, file_len, k, &field);
+ *     if (!skeptolyr_is_refusal(answer))
+ *         values = malloc((size_t)field.points * sizeof *values);
  *
  * ---- What is read
  *
@@ -28,9 +37,9 @@
  * No proof covers the program that calls these functions, so you must guarantee this:
  *   - `file` points to `file_len` octets that can be read, and nothing changes them during the call. A file that is mapped into memory must not
  *     become shorter during the call.
- *   - `values` and `presence` point to arrays with as many elements as their lengths say. They can be written, and nothing else reads or writes
- *     them during the call. The array `values` is aligned as doubles are.
- *   - The file and the two arrays do not overlap.
+ *   - `values`, `presence`, `numbers` and `position` point to arrays with as many elements as their lengths say. They can be written, and nothing else
+ *     reads or writes them during the call. The array `values` is aligned as doubles are, and `numbers` and `position` as int64_t is.
+ *   - The file and the arrays do not overlap.
  *
  * A null pointer is allowed where its length is 0: nothing is read or written through it.
  *
@@ -43,10 +52,10 @@
  * ---- What is proved
  *
  * Skeptolyr is written in Rattle, a language in which every function is proved to meet its contract, to touch only the memory that it is given, and
- * to end. Of the two questions it is proved, for every file and every call, that
+ * to end. Of the four questions it is proved, for every file and every call, that
  *   - a question is answered in full, or refused by the first refusal that applies, and a refused call changes nothing;
- *   - a file is accepted exactly when messages fill it and sections fill each message as the standard says, and the counts, the missing points and
- *     the packed integers are the standard's;
+ *   - a file is accepted exactly when messages fill it and sections fill each message as the standard says, and the counts, the descriptions, the
+ *     missing points and the packed integers are the standard's;
  *   - each value is finite and within one part in 2^51 of the exact fraction, and is 0 where that is 0.
  *
  * The inline functions of the header are C: they are tested, and not proved. In the source, docs/TRUST.md says what else is believed.
@@ -56,33 +65,39 @@
  * The proofs speak of the values in your arrays, and C knows more of memory than values. Three things are tested or measured, and not proved:
  *   - The sign and the payload of a NaN. In the proofs all NaNs are one value. If `values` has NaNs in elements that decode does not write, all 64
  *     bits of each stay as they were.
- *   - Memory that was never written. In the proofs every element has a value before the call. You may pass fresh memory from malloc all the same:
- *     decode reads no element of `values` and `presence`. It writes the elements of the field, and after a refusal none has been written.
+ *   - Memory that was never written. In the proofs every element has a value before the call. You may pass fresh memory from malloc all the same: no
+ *     function reads an element of the arrays that it writes to. It writes the elements of its answer, and after a refusal none has been written.
  *   - The stack. When measured, the functions took at most 2,048 octets of it, as much for the largest file as for the smallest.
  *
  * ---- How to link
  *
- * Link with libskeptolyr.a, which needs no other library: `pkg-config --cflags --libs skeptolyr` prints the options. It is code for x86-64. In the
- * source, examples/numbers.c is the shortest program that prints a field, and examples/draw.c makes a picture of one.
+ * Link with libskeptolyr.so, or with libskeptolyr.a, neither of which needs another library: `pkg-config --cflags --libs skeptolyr` prints the options, and
+ * for CMake there is find_package(skeptolyr). Two programs that may be copied are installed with the manual, in share/doc/skeptolyr/examples: numbers.c
+ * prints the values of a field, and draw.c makes a picture of one. The command `skeptolyr` answers the same questions without a program.
  */
 #ifndef SKEPTOLYR_H
 #define SKEPTOLYR_H
 
 #include <stddef.h>
 #include <stdint.h>
+#include <string.h>
 
 #ifdef __cplusplus
 extern "C" {
 #endif
 
 /* The version of this header, and of the archive that was installed with it. CHANGELOG.md says what each of its numbers stands for. */
-#define SKEPTOLYR_VERSION "1.0.3"
+#define SKEPTOLYR_VERSION "1.1.0"
 
 /* The longest file that is read, in octets, and the most points that a field can have. */
 #define SKEPTOLYR_MOST_OCTETS 268435456
 #define SKEPTOLYR_MOST_POINTS 16777216
 
-/* ---- The two questions */
+/* How many numbers describe a field, and how many tell where a point lies. */
+#define SKEPTOLYR_DESCRIPTION 53
+#define SKEPTOLYR_POSITION 2
+
+/* ---- The four questions */
 
 /* Checks a file of one or more messages: do messages fill the file, and do sections fill each message, with no gap and in the order of the standard?
  *
@@ -90,7 +105,7 @@ extern "C" {
  * one another as the standard allows: section 1, then one grid or more. A grid is section 3, then one field or more. A field is sections 4, 5, 6 and 7.
  * So a message that was cut, or that runs into the next one, is found.
  *
- * It does not look at what the sections say: a field of a file that is accepted can still be refused by skeptolyr_decode. Two kinds of damage can be
+ * It does not look at what the sections say: a field of a file that is accepted can still be refused by the other questions. Two kinds of damage can be
  * seen by no reader. A file that was cut between two messages has whole messages only. And a number may have become another number that is allowed: GRIB
  * has no checksum.
  *
@@ -101,17 +116,29 @@ extern "C" {
  */
 uint64_t skeptolyr_check(const uint8_t *file, size_t file_len);
 
+/* Describes field `k`: what it is, when and where, and how its values are packed. Fields are counted from 0 over all messages of the file.
+ *
+ * `numbers[0]` to `numbers[52]` become the members of struct skeptolyr_field, in their order. skeptolyr_describe_field asks the same and gives them their
+ * names.
+ *
+ * Takes    the file, `k`, and an array of SKEPTOLYR_DESCRIPTION numbers or more. No check is needed before.
+ * Returns  how many numbers it has put, which is SKEPTOLYR_DESCRIPTION; or a refusal from 1 to 15. 15 comes last: it is given where a field that is described
+ *          has too short an array.
+ * Never    changes a number after these, or any number at all when it refuses.
+ */
+uint64_t skeptolyr_describe(const uint8_t *file, size_t file_len, size_t k, int64_t *numbers, size_t numbers_len);
+
 /* Decodes field `k` into two arrays, from element `start` of each on. Fields are counted from 0 over all messages of the file.
  *
  * For each point n of the field, `values[start + n]` becomes its value, and `presence[start + n]` becomes 1. Where the point is missing, both become 0.
- * Point 0 is the one in the north-west. The points of a row follow one another to the east, and the rows to the south. No answer tells how many columns
- * and rows there are: in the source, the function `grid_in_force` of examples/draw.c finds these two numbers in the file.
+ * Point 0 is the one in the north-west. The points of a row follow one another to the east, and the rows to the south: point n is in column n mod ni and
+ * row n div ni, with the ni of skeptolyr_describe.
  *
  * Each value is within one part in 2^51 of the exact fraction (R + X 2^E) / 10^D of the file's numbers, and is 0 where that is 0.
  *
  * Takes    the file, `k`, `start`, and the two arrays, each with its own length. No check is needed before: a file that skeptolyr_check refuses is
- *          refused here in the same way. Arrays of SKEPTOLYR_MOST_POINTS elements have room for any field. An array that is too short for the field
- *          is no danger: it gives refusal 15.
+ *          refused here in the same way. The field needs as many elements as skeptolyr_describe tells by `points`, and arrays of
+ *          SKEPTOLYR_MOST_POINTS elements have room for any field. An array that is too short for the field is no danger: it gives refusal 15.
  * Returns  the number of points of the field, missing ones too, which skeptolyr_points gives as 32 bits; or a refusal from 1 to 16.
  * Never    changes an element before `start` or after the field's last point, or any element at all when it refuses; never writes an infinity, a NaN
  *          or -0.
@@ -119,13 +146,100 @@ uint64_t skeptolyr_check(const uint8_t *file, size_t file_len);
 uint64_t skeptolyr_decode(const uint8_t *file, size_t file_len, size_t k, size_t start,
                           double *values, size_t values_len, uint8_t *presence, size_t presence_len);
 
+/* Tells where point `n` of field `k` lies. Points are counted from 0, along the rows of the grid.
+ *
+ * `position[0]` becomes its latitude and `position[1]` its longitude, in millionths of a degree. skeptolyr_place_point asks the same and gives them their
+ * names.
+ *
+ * Takes    the file, `k`, `n`, and an array of SKEPTOLYR_POSITION numbers or more. No check is needed before.
+ * Returns  how many numbers it has put, which is SKEPTOLYR_POSITION; or a refusal from 1 to 14, 17 where the field has no point `n`, or 15 where the array is
+ *          too short, which comes last.
+ * Never    changes a number after these, or any number at all when it refuses.
+ */
+uint64_t skeptolyr_place(const uint8_t *file, size_t file_len, size_t k, size_t n, int64_t *position, size_t position_len);
+
+/* ---- What a field is, by name */
+
+/* A time of the Gregorian calendar, in UTC. */
+struct skeptolyr_time {
+    int64_t year, month, day, hour, minute, second;
+};
+
+/* Where a point lies, in millionths of a degree: its latitude, which is below 0 in the south, and its longitude to the east, from 0 to 359,999,999. */
+struct skeptolyr_position {
+    int64_t latitude, longitude;
+};
+
+/* A level: is one given (1) or is there none (0)? If it is, it is scaled / 10^factor, in the unit of the surface. If not, both are 0. */
+struct skeptolyr_level {
+    int64_t is_given, factor, scaled;
+};
+
+/* Where the sections in force for a field start in the file, in octets from 0. */
+struct skeptolyr_starts {
+    int64_t section_1, section_3, section_4, section_5, section_6, section_7;
+};
+
+/* What a field is. The members are the numbers of skeptolyr_describe, in its order. WMO's code tables say what a number of a code means. */
+struct skeptolyr_field {
+    int64_t discipline;                    /* section 0: 0 is meteorology, 10 is the sea (code table 0.0) */
+    int64_t status;                        /* section 1: 0 is operational, 1 is a trial */
+    struct skeptolyr_time reference;       /* section 1: when the forecast starts */
+    int64_t earth;                         /* section 3: the earth's shape, 1 or 6 (code table 3.2) */
+    int64_t radius;                        /* its radius in metres */
+    int64_t ni;                            /* the points in a row */
+    int64_t nj;                            /* the rows */
+    int64_t points;                        /* ni x nj: the room that skeptolyr_decode needs in each array */
+    struct skeptolyr_position first;       /* point 0, in the north-west */
+    struct skeptolyr_position last;        /* the point in the south-east, as the file tells it */
+    int64_t di;                            /* the step to the east, in millionths of a degree */
+    int64_t dj;                            /* the step to the south */
+    int64_t category;                      /* section 4: with discipline and parameter, what the values are (code tables 4.1 and 4.2) */
+    int64_t parameter;
+    int64_t process;                       /* the kind of process (code table 4.3) */
+    int64_t surface;                       /* the surface that the values are about (code table 4.5) */
+    struct skeptolyr_level level;          /* on that surface */
+    int64_t product_template;              /* 0: an instant, 8: an interval */
+    struct skeptolyr_time end;             /* the end of an interval; for an instant each number is 0 */
+    int64_t kind;                          /* of an interval: 0 is a mean, 1 is a sum; for an instant 0 */
+    struct skeptolyr_time valid;           /* the instant, or the start of an interval */
+    int64_t present;                       /* section 5: N, how many points are present and have a value */
+    int64_t r;                             /* R, as the 32 bits of a single-precision number */
+    int64_t e;                             /* E and D: the value of a point with the packed integer X is (R + X 2^E) / 10^D */
+    int64_t d;
+    int64_t bits;                          /* the bits of a packed value, or of a group's reference */
+    int64_t data_template;                 /* 0: simple packing (5.0), 3: complex packing (5.3) */
+    int64_t indicator;                     /* section 6: 255: all points are present, 0: the field's own bitmap, 254: an earlier one */
+    struct skeptolyr_starts starts;
+};
+
+/* Describes field `k`, as skeptolyr_describe does, with a name for each number. A refused call does not change `field`. */
+static inline uint64_t skeptolyr_describe_field(const uint8_t *file, size_t file_len, size_t k, struct skeptolyr_field *field)
+{
+    int64_t numbers[SKEPTOLYR_DESCRIPTION];
+    uint64_t answer = skeptolyr_describe(file, file_len, k, numbers, SKEPTOLYR_DESCRIPTION);
+    if ((answer >> 63) == 0)
+        memcpy(field, numbers, sizeof *field);
+    return answer;
+}
+
+/* Tells where point `n` of field `k` lies, as skeptolyr_place does, with a name for each number. A refused call does not change `position`. */
+static inline uint64_t skeptolyr_place_point(const uint8_t *file, size_t file_len, size_t k, size_t n, struct skeptolyr_position *position)
+{
+    int64_t numbers[SKEPTOLYR_POSITION];
+    uint64_t answer = skeptolyr_place(file, file_len, k, n, numbers, SKEPTOLYR_POSITION);
+    if ((answer >> 63) == 0)
+        memcpy(position, numbers, sizeof *position);
+    return answer;
+}
+
 /* ---- Refusals */
 
 /* A refusal says why a question is not answered, and skeptolyr_refusal_text puts it into words. Places are counted in octets from 0, the start of the
  * file. The place of a section or of a message is where it starts.
  *
  * Where several reasons apply, the first of them is given, in this order. First come 1 and 2, which are about the file's length. Then comes that of 3
- * to 7 which is met first in the file. Then come 8, and 9 to 14, which are about the sections of the field. The last are 17, or 15 and then 16.
+ * to 7 which is met first in the file. Then come 8, and 9 to 14, which are about the sections of the field. The last are 17, 15 and then 16.
  */
 enum skeptolyr_refusal {
     /* The name                        number    the place */
@@ -145,8 +259,8 @@ enum skeptolyr_refusal {
     SKEPTOLYR_BAD_PACKING =            14,    /* section 7 */
     SKEPTOLYR_NO_ROOM =                15,    /* 0 */
     SKEPTOLYR_VALUE_OUT_OF_RANGE =     16,    /* section 7 */
-    /* No function of this header gives these: 18 is given by the program skeptolyr-listing, and 17 and 19 by questions in Rattle. */
     SKEPTOLYR_NO_SUCH_POINT =          17,    /* 0 */
+    /* No function of this header gives these: 18 is given by the program skeptolyr-listing, and 19 by a question in Rattle. */
     SKEPTOLYR_INPUT_TOO_LONG =         18,    /* 65536 */
     SKEPTOLYR_NOT_REBUILDABLE =        19     /* 0 */
 };
@@ -181,13 +295,13 @@ static inline const char *skeptolyr_refusal_text(uint32_t number)
         "does not mark as many points as there are values. Fetch the file again. If it is refused again, use another reader.";
     case SKEPTOLYR_BAD_PACKING: return "Damaged, or written wrongly: section 7, which starts here, does not hold what section 5 says; its groups or its "
         "length are wrong. Fetch the file again. If it is refused again, tell those who wrote it.";
-    case SKEPTOLYR_NO_ROOM: return "The field has more points than one of the two arrays has room for after the start position. "
-        "Pass longer arrays: 16,777,216 elements have room for any field.";
+    case SKEPTOLYR_NO_ROOM: return "An array that was passed has no room for the answer: for the points of the field after the start position, or for the "
+        "numbers. Pass a longer one: skeptolyr_describe tells how many points there are, and needs 53 numbers itself.";
     case SKEPTOLYR_VALUE_OUT_OF_RANGE: return "Damaged, or written wrongly: section 7, which starts here, unpacks to an integer below 0 or above "
         "2,147,483,647. Fetch the file again. If it is refused again, tell those who wrote it.";
     case SKEPTOLYR_NO_SUCH_POINT: return "The field has no point of this number. Points are counted from 0: ask for one below the number of points.";
     case SKEPTOLYR_INPUT_TOO_LONG: return "The input is longer than 65,536 octets, the most that skeptolyr-listing reads. "
-        "skeptolyr-draw and the functions for C read longer files.";
+        "The command skeptolyr and the functions for C read longer files.";
     case SKEPTOLYR_NOT_REBUILDABLE: return "No value can be rebuilt: R is not a finite number, or E, D or X is outside its limits. Give numbers within them.";
     default: return "No refusal has this number.";
     }
@@ -201,7 +315,7 @@ static inline int skeptolyr_is_refusal(uint64_t answer)
     return (answer >> 63) != 0;
 }
 
-/* A refusal's number, from 1 to 16. */
+/* A refusal's number, from 1 to 17. */
 static inline uint32_t skeptolyr_refusal_number(uint64_t answer)
 {
     return answer >> 32 & 0x7fffffff;
