@@ -1,6 +1,6 @@
 # The targets for daily work. `tools/test` and `tools/sample` need no make.
 .DEFAULT_GOAL := help
-.PHONY: help sample test soak bench peers fuzz check lib examples picture man build install uninstall dev fmt house believed spec limits clean
+.PHONY: help sample test soak bench peers fuzz check lib examples picture man build install uninstall dist dev fmt house believed spec limits clean
 
 help: ## List the targets.
 	@awk -F ':.*## ' '/^[a-z]+:.*## / { printf "  make %-9s %s\n", $$1, $$2 }' $(MAKEFILE_LIST)
@@ -41,11 +41,14 @@ man: ## Write the manual pages, made from the header, into target/man: man -l ta
 build: ## Prove and build what make install installs, for those who will install as root.
 	@tools/install build
 
-install: ## Prove, build and install the library, its manual and two programs: make install PREFIX=/usr/local. DESTDIR is honoured.
+install: ## Prove, build and install it: make install PREFIX=/usr/local LIBDIR=lib. DESTDIR, MACHINE, CC, CFLAGS and LDFLAGS are honoured.
 	@tools/install install
 
-uninstall: ## Remove what make install has put under the same PREFIX and DESTDIR.
+uninstall: ## Remove what make install has put under the same PREFIX, LIBDIR and DESTDIR.
 	@tools/install uninstall
+
+dist: ## Pack what make install installs into target/dist, for people without the kit: make dist MACHINE=x86_64, or aarch64.
+	@tools/install dist
 
 dev: ## Check one crate in seconds, past its holes: make dev CRATE=bits.
 	rt dev $(CRATE) --allow-holes

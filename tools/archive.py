@@ -2,7 +2,9 @@
 kit's emulator runs it.
 
   python3 -m tools.archive SOURCE..   compile each source with the reader, and write the program target/NAME
+  python3 -m tools.archive command    compile the command, and write target/skeptolyr
 """
+import glob
 import os
 import platform
 import subprocess
@@ -49,6 +51,20 @@ def program(crate, source, *more, name=None):
     return [out]
 
 
+def command_sources():
+    """What the command skeptolyr is compiled of."""
+    return sorted(glob.glob(os.path.join(TOP, 'command', '*.c')))
+
+
+def skeptolyr():
+    """The command that runs the program skeptolyr: a ready one that the variable SKEPTOLYR_COMMAND names, or one that is compiled of command/."""
+    named = os.environ.get('SKEPTOLYR_COMMAND')
+    return [os.path.abspath(named)] if named else program('skeptolyr', *command_sources(), name='skeptolyr')
+
+
 if __name__ == '__main__':
     for each in sys.argv[1:]:
-        program('skeptolyr', each)
+        if each == 'command':
+            skeptolyr()
+        else:
+            program('skeptolyr', each)

@@ -11,6 +11,8 @@ docs/man/PAGE.in. There @VERSION@ is the header's version, and a line that start
   @description NAME    what the comment of a function says, but for what it returns
   @returns NAME        what it returns
   @functions NAME..    a list of functions, each with its comment
+  @structs NAME..      a list of structs, each with its comment, and with its members where they have no comments of their own
+  @numbers NAME        a list of a struct's members, each with its place where the struct is a run of numbers, and with its comment
   @constants           a list of the constants that are defined, with their comments
   @order               the comment on all refusals
   @refusals            a list of the refusals: constant, number, place and text
@@ -49,10 +51,23 @@ class Header:
         self.order = next(comment for comment, below in comments if below.startswith('enum '))
         self.comments = {name: comment for comment, below in comments for name in re.findall(r'^(?!#|enum).*[ *](skeptolyr_\w+)\(', below)}
         self.declarations = {name: ' '.join(words.split()) for words, name in re.findall(r'^(\w[\w ]*[ *](skeptolyr_\w+)\([^)]*\))(?:;|\n\{)', text, re.M)}
+        bodies = re.findall(r'^struct (\w+) \{\n((?: .*\n)+)\};$', text, re.M)
+        self.structs = {name: re.findall(r'^ +(?:struct )?(\w+) ([\w, ]+);(?: +/\* (.*) \*/)?$', body, re.M) for name, body in bodies}
+        self.struct_comments = {name: comment for comment, below in comments for name in re.findall(r'^struct (\w+) \{', below)}
         self.parameters = {name for words in self.declarations.values() for name in re.findall(r'(\w+)[,)]', words)}
         texts = {name: ''.join(re.findall(r'"([^"]*)"', said)) for name, said in re.findall(r'^    case (\w+): return ((?:"[^"]*"\s*)+);$', text, re.M)}
         rows = re.findall(r'^    (SKEPTOLYR_\w+) = +(\d+),? +/\* (.*) \*/$', text, re.M)
         self.refusals = [(name, int(number), place, texts[name]) for name, number, place in rows]
+
+    def size(self, kind):
+        """How many numbers a type of a member holds."""
+        return sum(self.size(inner) * len(names.split(', ')) for inner, names, _ in self.structs[kind]) if kind in self.structs else 1
+
+    def comment(self, name):
+        """The comment of a function."""
+        if name not in self.comments:
+            sys.exit('include/skeptolyr.h: no comment stands right above %s: a page is made of it' % name)
+        return self.comments[name]
 
 
 def blocks(comment):
@@ -90,6 +105,12 @@ def escaped(text):
     return re.sub(r'(?<!\w)-|-(?!\w)', r'\\-', text)
 
 
+def listed(names):
+    """Names in bold, in a sentence."""
+    bold = ['\\fB%s\\fP' % name for name in names]
+    return ', '.join(bold[:-1]) + ' and ' * (len(bold) > 1) + bold[-1]
+
+
 def sentences(text):
     """One sentence a line. A line that would start with a sign of its own does not."""
     return [re.sub(r"^([.'])", r'\\&\1', line) for line in re.split(r'(?<=[.:?]) (?=[A-Z])', text)]
@@ -106,7 +127,11 @@ class Writer:
         text = escaped(re.sub(r'"([^"]*)"', r'\\[lq]\1\\[rq]', text).replace('\\[', '\0')).replace('\0', '\\[')
         text = re.sub(r'`([^`]*)`', lambda code: self.code(code.group(1)), text)
         text = re.sub(r'\bSKEPTOLYR_\w+', r'\\fB\g<0>\\fP', text)
-        return re.sub(r'\bskeptolyr_\w+', lambda name: '\\fB%s\\fP%s' % (name.group(), '' if name.group() in self.own else '(3)'), text)
+        return re.sub(r'\bskeptolyr_\w+', lambda name: '\\fB%s\\fP%s' % (name.group(), '(3)' * self.is_elsewhere(name.group())), text)
+
+    def is_elsewhere(self, name):
+        """Is it a function that has another page?"""
+        return name in self.header.declarations and name not in self.own
 
     def code(self, text):
         if any(name in self.header.parameters for name in re.findall(r'\w+', text)):
@@ -141,7 +166,12 @@ class Writer:
         """Declarations, with each pointer at the start of a line where one line does not do."""
         lines = []
         for name in names:
-            start, rest = re.match(r'(.*?\()(.*)\)', self.header.declarations[name]).groups()
+            before, start, rest = re.match(r'(.*?)(skeptolyr_\w+\()(.*)\)', self.header.declarations[name]).groups()
+            # The type stands on a line of its own where a parameter would not fit behind it and the name.
+            if len(before + start) + max(map(len, rest.split(', '))) + 2 > COLUMNS:
+                lines.append('\\fB%s\\fP' % before.strip())
+            else:
+                start = before + start
             is_long, parts = len(start + rest + ');') > COLUMNS, ['']
             for parameter in rest.split(', '):
                 joined = parts[-1] + ', ' * bool(parts[-1]) + parameter
@@ -154,15 +184,44 @@ class Writer:
         return lines
 
     def description(self, name):
-        return self.comment([block for block in blocks(self.header.comments[name]) if block[0] != 'Returns'])
+        return self.comment([block for block in blocks(self.header.comment(name)) if block[0] != 'Returns'])
 
     def returns(self, name):
-        return self.comment([block for block in blocks(self.header.comments[name]) if block[0] == 'Returns'])
+        return self.comment([block for block in blocks(self.header.comment(name)) if block[0] == 'Returns'])
 
     def functions(self, *names):
         lines = []
         for name in names:
-            lines += ['.TP', '.B ' + name] + self.comment(blocks(self.header.comments[name]))
+            lines += ['.TP', '.B ' + name] + self.comment(blocks(self.header.comment(name)))
+        return lines
+
+    def structs(self, *names):
+        lines = []
+        for name in names:
+            kinds, joined, comments = zip(*self.header.structs[name])
+            lines += ['.TP', '.B struct ' + name] + self.comment(blocks(self.header.struct_comments[name]))
+            # Members that have comments of their own are told by @numbers.
+            if not any(comments):
+                lines += ['Its members are \\fB%s\\fP: %s.' % (kind, listed(names.split(', '))) for kind, names in zip(kinds, joined)]
+        return lines
+
+    def numbers(self, name):
+        """A member that has no comment stands with the one before it, or has the comment of its struct."""
+        place, rows = 0, []
+        for kind, joined, comment in self.header.structs[name]:
+            text = comment or self.header.struct_comments.get(kind, '')
+            for member in joined.split(', '):
+                last = place + self.header.size(kind) - 1
+                where = '%d' % place if last == place else '%d to %d' % (place, last)
+                if not text and rows:
+                    rows[-1][0].append((member, where))
+                else:
+                    rows.append(([(member, where)], kind, text))
+                place = last + 1
+        lines = []
+        for members, kind, text in rows:
+            head = ', '.join('\\fB%s\\fP (%s)' % pair for pair in members)
+            lines += ['.TP', head] + ['\\fBstruct %s\\fP:' % kind] * (kind in self.header.structs) + self.comment(blocks(text))
         return lines
 
     def constants(self):
@@ -209,6 +268,8 @@ def pages():
         found[name[:-len('.in')]] = page(source, header)
         homes.update({function: name[:-len('.in')] for function in re.findall(r'\bskeptolyr_\w+', ''.join(re.findall(r'^@synopsis .*$', source, re.M)))})
     for function in header.declarations:
+        if function not in homes:
+            sys.exit('docs/man: no page has a line @synopsis with %s, which include/skeptolyr.h declares' % function)
         found.setdefault(function + '.3', '.so man3/%s\n' % homes[function])
     return found
 
