@@ -67,7 +67,7 @@
  *     bits of each stay as they were.
  *   - Memory that was never written. In the proofs every element has a value before the call. You may pass fresh memory from malloc all the same: no
  *     function reads an element of the arrays that it writes to. It writes the elements of its answer, and after a refusal none has been written.
- *   - The stack. When measured, the functions took at most 2,048 octets of it, as much for the largest file as for the smallest.
+ *   - The stack. When measured, the functions took at most 2,624 octets of it, as much for the largest file as for the smallest.
  *
  * ---- How to link
  *
