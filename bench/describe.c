@@ -1,13 +1,11 @@
 /* Times describe of one field of the file on standard input: the median and the slowest of many calls, in microseconds. */
-#include <inttypes.h>
-#include <stdint.h>
+#include "skeptolyr.h"
+
 #include <stdio.h>
 #include <stdlib.h>
 #include <time.h>
 
-enum { CALLS = 1001, ROOM = 56 };
-
-uint64_t tell_describe(const uint8_t *file, size_t file_len, size_t k, uint64_t *run, size_t run_len);
+enum { CALLS = 1001 };
 
 static double now(void)
 {
@@ -26,7 +24,8 @@ int main(int argc, char **argv)
 {
     size_t room = (size_t)1 << 28, length, k = argc > 1 ? strtoull(argv[1], NULL, 10) : 0;
     uint8_t *file = malloc(room);
-    uint64_t run[ROOM], code = 0;
+    int64_t numbers[SKEPTOLYR_DESCRIPTION];
+    uint64_t answer = 0;
     static double took[CALLS];
 
     if (file == NULL || (length = fread(file, 1, room, stdin)) == 0) {
@@ -35,10 +34,11 @@ int main(int argc, char **argv)
     }
     for (int i = 0; i < CALLS; i++) {
         double start = now();
-        code = tell_describe(file, length, k, run, ROOM);
+        answer = skeptolyr_describe(file, length, k, numbers, SKEPTOLYR_DESCRIPTION);
         took[i] = now() - start;
     }
     qsort(took, CALLS, sizeof *took, by_size);
-    printf("describe field %zu of %zu octets: %s, median %.1f us, slowest of %d calls %.1f us\n", k, length, code >> 63 ? "refused" : "answered", took[CALLS / 2], CALLS, took[CALLS - 1]);
-    return (int)(code >> 63);
+    const char *how = skeptolyr_is_refusal(answer) ? "refused" : "answered";
+    printf("describe field %zu of %zu octets: %s, median %.1f us, slowest of %d calls %.1f us\n", k, length, how, took[CALLS / 2], CALLS, took[CALLS - 1]);
+    return skeptolyr_is_refusal(answer);
 }

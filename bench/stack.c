@@ -1,4 +1,4 @@
-/* Prints the most stack that skeptolyr_decode takes for the first and the last field of the file on standard input, and for one behind them, in
+/* Prints the most stack that any of the four functions takes for the first and the last field of the file on standard input, and for one behind them, in
  * octets, with its return address and the arguments that are handed on the stack. The call runs on a stack of its own that was painted
  * before, and the deepest octet that lost its paint tells. */
 #include "skeptolyr.h"
@@ -12,9 +12,16 @@ enum { STACK = 1 << 20, MOST_POINTS = 16777216 };
 
 static uint8_t stack[STACK], *file, *presence, *caller;
 static double *values;
+static int64_t numbers[SKEPTOLYR_DESCRIPTION];
 static size_t length, asked;
 static volatile uint64_t answer;
 static ucontext_t outside, inside;
+
+static void check(void)
+{
+    caller = __builtin_frame_address(0);
+    answer = skeptolyr_check(file, length);
+}
 
 static void decode(void)
 {
@@ -22,8 +29,20 @@ static void decode(void)
     answer = skeptolyr_decode(file, length, asked, 0, values, MOST_POINTS, presence, MOST_POINTS);
 }
 
-/* How deep the call reaches below its caller's frame. What is reserved and never changed does not show, so a few octets may be missing. */
-static size_t depth(int paint)
+static void describe(void)
+{
+    caller = __builtin_frame_address(0);
+    answer = skeptolyr_describe(file, length, asked, numbers, SKEPTOLYR_DESCRIPTION);
+}
+
+static void place(void)
+{
+    caller = __builtin_frame_address(0);
+    answer = skeptolyr_place(file, length, asked, 0, numbers, SKEPTOLYR_POSITION);
+}
+
+/* How deep a call reaches below its caller's frame. What is reserved and never changed does not show, so a few octets may be missing. */
+static size_t depth(void (*call)(void), int paint)
 {
     size_t kept = 0;
     memset(stack, paint, STACK);
@@ -32,7 +51,7 @@ static size_t depth(int paint)
     inside.uc_stack.ss_sp = stack;
     inside.uc_stack.ss_size = STACK;
     inside.uc_link = &outside;
-    makecontext(&inside, decode, 0);
+    makecontext(&inside, call, 0);
     if (swapcontext(&outside, &inside) != 0)
         exit(2);
     while (kept < STACK && stack[kept] == paint)
@@ -50,10 +69,11 @@ int main(void)
         return 2;
     length = fread(file, 1, room, stdin);
     size_t fields = skeptolyr_fields(skeptolyr_check(file, length)), fields_asked[] = {0, fields - 1, fields};
-    for (size_t i = 0; i < 3; i++) {
+    void (*const calls[])(void) = {check, decode, describe, place};
+    for (size_t i = 0; i < 12; i++) {
         for (int paint = 0; paint < 256; paint += 85) {
-            asked = fields_asked[i];
-            size_t deep = depth(paint);
+            asked = fields_asked[i % 3];
+            size_t deep = depth(calls[i / 3], paint);
             most = deep > most ? deep : most;
         }
     }

@@ -32,6 +32,12 @@ STRETCH = "an element outside the field's stretch has changed"
 ELEMENT = "an element and the independent decoder's differ"
 ANSWER = 'decode and the independent decoder differ'
 PRESENCE = 'a presence is neither 0 nor 1'
+# Behind the name of describe or of place.
+NUMBER = ' puts another number than the independent decoder'
+NUMBERS_ANSWER = ' and the independent decoder differ'
+COUNT = ' puts another number of numbers than it has'
+NOT_OWN = ' changes a number that is not its own'
+NOT_AS_DECODE = ' does not refuse as decode does'
 MESSAGES = [
     None,
     'check and the independent decoder differ',
@@ -60,6 +66,28 @@ MESSAGES = [
     'a missing point is given a double that is not +0',
     'a double is -0',
     'a double is not finite',
+    'describe' + NUMBER,
+    'describe' + NUMBER,
+    'describe puts numbers twice, and differently',
+    'describe' + NUMBER,
+    'describe' + NUMBER,
+    'describe' + NUMBER,
+    'describe' + COUNT,
+    OVERFLOW,
+    'describe' + NOT_OWN,
+    'describe' + NOT_AS_DECODE,
+    'describe' + COUNT,
+    'describe' + NOT_OWN,
+    'place' + NUMBER,
+    'place' + NUMBER,
+    'place' + NUMBER,
+    'place' + NUMBERS_ANSWER,
+    OVERFLOW,
+    'place' + NOT_OWN,
+    'place' + NOT_AS_DECODE,
+    'place' + NUMBERS_ANSWER,
+    'place' + COUNT,
+    'place' + NOT_OWN,
 ]
 
 

@@ -14,6 +14,8 @@ from tests.help import SEED, grib, reading
 LONGEST_RUN = 2047
 LONGEST_FILE = 4000
 BITMAPS = 8
+# The largest n that an octet stands for by itself.
+LARGEST_NEAR = 223
 
 
 def long_fields(rng):
@@ -31,6 +33,7 @@ def long_fields(rng):
 def files():
     """(name, file, k)"""
     found = [('no octet', b'', 0), ('grouped', grib.grouped(), 0), ('16,777,216 points', fields.blank(4096, 4096), 0)]
+    found += [('told', file, k) for _, file, k, _ in fields.told_descriptions()]
     found += [('sample', file, 0) for file in fields.make.samples().values()] + [('sample', grib.two_fields(), k) for k in (1, 2)]
     found += [('example', file, 0) for _, file, _, _ in decoding.examples()] + [('error', file, k) for _, file, k, _ in decoding.errors()]
     found += [('earlier field', file, k) for _, file, k, _ in fields.later_fields() if k < 200]
@@ -51,13 +54,17 @@ def points_of(file, k):
 
 
 def seeds():
-    """(name, the input's octets). One question in four fits exactly, and one lends a run that is one element short."""
+    """(name, the input's octets). Of decode one question in four fits exactly, and one lends a run that is one element short. Describe and place are lent
+    runs that are too short, that fit, and that are longer, and a third of the points is the one behind the last."""
     for number, (name, file, k) in enumerate(files()):
+        points = points_of(file, k)
         start, spare = ((2, 3), (0, 0), (1, 1), (1, -1))[number % 4]
-        values = max(0, min(LONGEST_RUN, start + points_of(file, k) + spare))
-        presence = min(LONGEST_RUN, start + points_of(file, k))
+        values = max(0, min(LONGEST_RUN, start + points + spare))
+        presence = min(LONGEST_RUN, start + points)
+        n = min(LARGEST_NEAR, (1, points - 1, points)[number % 3])
+        numbers = [(0, 53, 54, 52, 60)[number % 5], n, (0, 2, 3, 1)[number % 4]]
         if len(file) <= LONGEST_FILE:
-            yield '%02d %s' % (number, name), bytes([k, start]) + grib.number(values, 2) + grib.number(presence, 2) + file
+            yield '%02d %s' % (number, name), bytes([k, start]) + grib.number(values, 2) + grib.number(presence, 2) + bytes(numbers) + file
 
 
 def main():

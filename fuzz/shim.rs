@@ -32,3 +32,19 @@ pub unsafe extern "C" fn reference_decode(
         Err(refusal) => refusal.code(),
     }
 }
+
+/// # Safety
+/// `file` points to `file_length` octets, and `numbers` to `numbers_length` elements. They do not overlap.
+#[no_mangle]
+pub unsafe extern "C" fn reference_describe(file: *const u8, file_length: usize, k: usize, numbers: *mut i64, numbers_length: usize) -> u64 {
+    let (file, numbers) = (slice::from_raw_parts(file, file_length), slice::from_raw_parts_mut(numbers, numbers_length));
+    reference::describe_into(file, k as u64, numbers).unwrap_or_else(|refusal| refusal.code())
+}
+
+/// # Safety
+/// `file` points to `file_length` octets, and `position` to `position_length` elements. They do not overlap.
+#[no_mangle]
+pub unsafe extern "C" fn reference_place(file: *const u8, file_length: usize, k: usize, n: usize, position: *mut i64, position_length: usize) -> u64 {
+    let (file, position) = (slice::from_raw_parts(file, file_length), slice::from_raw_parts_mut(position, position_length));
+    reference::place_into(file, k as u64, n as u64, position).unwrap_or_else(|refusal| refusal.code())
+}

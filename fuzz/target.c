@@ -1,4 +1,4 @@
-/* The fuzz target: puts one question to skeptolyr_check and to skeptolyr_decode, and aborts where an answer or an element is not as it must be.
+/* The fuzz target: puts one question to each of the four functions of skeptolyr.h, and aborts where an answer or an element is not as it must be.
  *
  * What the header promises is judged here without believing the library, and every answer and every element is compared with those of the
  * independent decoder. The file and the runs lie in heap memory of exactly their size, so that AddressSanitizer sees a step outside. */
@@ -17,10 +17,12 @@ int LLVMFuzzerTestOneInput(const uint8_t *data, size_t size);
 uint64_t reference_check(const uint8_t *file, size_t file_length);
 uint64_t reference_decode(const uint8_t *file, size_t file_length, size_t k, size_t start, double *values, size_t values_length, uint8_t *presence,
                           size_t presence_length);
+uint64_t reference_describe(const uint8_t *file, size_t file_length, size_t k, int64_t *numbers, size_t numbers_length);
+uint64_t reference_place(const uint8_t *file, size_t file_length, size_t k, size_t n, int64_t *position, size_t position_length);
 
 struct question {
     const uint8_t *file;
-    size_t length, k, start, values_length, presence_length;
+    size_t length, k, start, values_length, presence_length, numbers_length, n, position_length;
 };
 
 struct runs {
@@ -34,13 +36,14 @@ struct runs {
 enum { FILLING = 0xa5, OTHER_FILLING = 0x5a };
 
 /* The refusals, by the numbers that the header gives them. */
-enum { OVER_LENGTH = 1, NO_OCTET = 2, LAST_OF_CHECK = 7, NO_FIELD = 8, NO_ROOM = 15, LAST_OF_DECODE = 16 };
+enum { OVER_LENGTH = 1, NO_OCTET = 2, LAST_OF_CHECK = 7, NO_FIELD = 8, LAST_OF_FIELD = 14, NO_ROOM = 15, LAST_OF_DECODE = 16, NO_POINT = 17 };
 
 static void fault(const struct question *q, const char *what, uint64_t found, uint64_t wanted)
 {
     fprintf(stderr, "FAULT: %s\n  found %016" PRIx64 ", wanted %016" PRIx64 "\n", what, found, wanted);
     fprintf(stderr, "  a file of %zu octets, field %zu from element %zu on", q->length, q->k, q->start);
     fprintf(stderr, " in runs of %zu and %zu\n", q->values_length, q->presence_length);
+    fprintf(stderr, "  its description in %zu numbers, and point %zu in %zu\n", q->numbers_length, q->n, q->position_length);
     abort();
 }
 
@@ -78,7 +81,7 @@ static void take_back_runs(const struct question *q, struct runs r)
 
 /* ---- the question */
 
-/* k or start by its octet: mostly that number, and now and then one near which a sum or a product leaves 32 or 64 bits. */
+/* k, start or n by its octet: mostly that number, and now and then one near which a sum or a product leaves 32 or 64 bits. */
 static size_t near_or_far(uint8_t octet)
 {
     static const uint64_t far[] = {UINT64_C(1) << 32, UINT64_C(1) << 61, UINT64_C(1) << 63, UINT64_MAX - 7};
@@ -97,7 +100,7 @@ static void judge_refusal(const struct question *q, uint64_t answer, uint32_t la
     uint32_t number = skeptolyr_refusal_number(answer), place = skeptolyr_refusal_place(answer);
     if (number == 0 || number > last)
         fault(q, "a refusal has no number of its function", number, last);
-    if (place != 0 && (place >= q->length || number <= NO_OCTET || number == NO_FIELD || number == NO_ROOM))
+    if (place != 0 && (place >= q->length || number <= NO_OCTET || number == NO_FIELD || number == NO_ROOM || number == NO_POINT))
         fault(q, "a refusal's place is not where it can be", place, 0);
     if (number == OVER_LENGTH || (number == NO_OCTET) != (q->length == 0))
         fault(q, "a file is refused by its length, which is another", number, q->length);
@@ -202,7 +205,7 @@ static void compare(const struct question *q, const char *what, struct runs foun
     }
 }
 
-static void ask_decode_thrice(const struct question *q, uint64_t checked)
+static uint64_t ask_decode_thrice(const struct question *q, uint64_t checked)
 {
     struct runs first = lend_runs(q, FILLING), second = lend_runs(q, OTHER_FILLING), third = lend_runs(q, FILLING);
     uint64_t answer = ask_decode(q, first), again = ask_decode(q, second);
@@ -222,6 +225,108 @@ static void ask_decode_thrice(const struct question *q, uint64_t checked)
     take_back_runs(q, first);
     take_back_runs(q, second);
     take_back_runs(q, third);
+    return answer;
+}
+
+/* ---- numbers */
+
+/* A function that puts numbers at the start of a run: its name, how it and the independent decoder are asked, the length of the run, how many numbers there
+ * are, and its own last refusal, beside 15. */
+struct numbering {
+    const char *name;
+    uint64_t (*ask)(const struct question *q, int64_t *run), (*ask_reference)(const struct question *q, int64_t *run);
+    size_t length, count;
+    uint32_t last;
+};
+
+static uint64_t ask_describe(const struct question *q, int64_t *run)
+{
+    return skeptolyr_describe(q->file, q->length, q->k, run, q->numbers_length);
+}
+
+static uint64_t ask_reference_describe(const struct question *q, int64_t *run)
+{
+    return reference_describe(q->file, q->length, q->k, run, q->numbers_length);
+}
+
+static uint64_t ask_place(const struct question *q, int64_t *run)
+{
+    return skeptolyr_place(q->file, q->length, q->k, q->n, run, q->position_length);
+}
+
+static uint64_t ask_reference_place(const struct question *q, int64_t *run)
+{
+    return reference_place(q->file, q->length, q->k, q->n, run, q->position_length);
+}
+
+static void fault_of(const struct question *q, const struct numbering *f, const char *what, uint64_t found, uint64_t wanted)
+{
+    char words[128];
+    snprintf(words, sizeof words, "%s %s", f->name, what);
+    fault(q, words, found, wanted);
+}
+
+/* What is refused because of the file or of the field is refused by each function alike, and before what is wrong with the rest of its question. */
+static void judge_numbering(const struct question *q, const struct numbering *f, uint64_t decoded, uint64_t answer)
+{
+    uint32_t number = skeptolyr_is_refusal(answer) ? skeptolyr_refusal_number(answer) : 0;
+    int is_field_refused = skeptolyr_is_refusal(decoded) && skeptolyr_refusal_number(decoded) <= LAST_OF_FIELD;
+    if (is_field_refused && answer != decoded)
+        fault_of(q, f, "does not refuse as decode does", answer, decoded);
+    if (is_field_refused)
+        return;
+    if (number != 0 && number != NO_ROOM && number != f->last)
+        fault_of(q, f, "refuses a field that decode does not refuse", answer, decoded);
+    if (number != 0)
+        judge_refusal(q, answer, NO_POINT);
+    if (number == NO_ROOM && f->length >= f->count)
+        fault_of(q, f, "refuses a run that has room", f->length, f->count);
+    if (number == 0 && (answer != f->count || f->length < f->count))
+        fault_of(q, f, "puts another number of numbers than it has", answer, f->count);
+}
+
+/* All octets behind the numbers of an answer, or all of the run behind a refusal, are the filling. */
+static void judge_run(const struct question *q, const struct numbering *f, uint64_t answer, const int64_t *run, int filling)
+{
+    const uint8_t *octets = (const uint8_t *)run;
+    for (size_t i = skeptolyr_is_refusal(answer) ? 0 : f->count * sizeof *run; i < f->length * sizeof *run; i++)
+        if (octets[i] != filling)
+            fault_of(q, f, "changes a number that is not its own", octets[i], (uint64_t)filling);
+}
+
+static int64_t *lend_run(const struct numbering *f, int filling)
+{
+    int64_t *run = lend(f->length * sizeof *run);
+    memset(run, filling, f->length * sizeof *run);
+    return run;
+}
+
+static void compare_runs(const struct question *q, const struct numbering *f, const char *what, const int64_t *found, const int64_t *wanted)
+{
+    for (size_t i = 0; i < f->count; i++)
+        if (found[i] != wanted[i])
+            fault_of(q, f, what, (uint64_t)found[i], (uint64_t)wanted[i]);
+}
+
+static void ask_numbers_thrice(const struct question *q, const struct numbering *f, uint64_t decoded)
+{
+    int64_t *first = lend_run(f, FILLING), *second = lend_run(f, OTHER_FILLING), *third = lend_run(f, FILLING);
+    uint64_t answer = f->ask(q, first), again = f->ask(q, second), wanted = f->ask_reference(q, third);
+    judge_numbering(q, f, decoded, answer);
+    if (answer != again)
+        fault_of(q, f, "answers twice, and differently", again, answer);
+    judge_run(q, f, answer, first, FILLING);
+    judge_run(q, f, answer, second, OTHER_FILLING);
+    if (answer != wanted)
+        fault_of(q, f, "and the independent decoder differ", answer, wanted);
+    judge_run(q, f, answer, third, FILLING);
+    if (!skeptolyr_is_refusal(answer)) {
+        compare_runs(q, f, "puts numbers twice, and differently", second, first);
+        compare_runs(q, f, "puts another number than the independent decoder", first, third);
+    }
+    take_back(first, f->length * sizeof *first);
+    take_back(second, f->length * sizeof *second);
+    take_back(third, f->length * sizeof *third);
 }
 
 int LLVMFuzzerTestOneInput(const uint8_t *data, size_t size)
@@ -231,8 +336,14 @@ int LLVMFuzzerTestOneInput(const uint8_t *data, size_t size)
     size_t length = size - QUESTION_OCTETS;
     uint8_t *file = lend(length);
     memcpy(file, data + QUESTION_OCTETS, length);
-    struct question q = {file, length, near_or_far(data[0]), near_or_far(data[1]), run_length(data + 2), run_length(data + 4)};
-    ask_decode_thrice(&q, ask_check(&q));
+    struct question q = {
+        file, length, near_or_far(data[0]), near_or_far(data[1]), run_length(data + 2), run_length(data + 4),
+        data[6] & MOST_NUMBERS, near_or_far(data[7]), data[8] & MOST_OF_PLACE};
+    struct numbering describe = {"describe", ask_describe, ask_reference_describe, q.numbers_length, SKEPTOLYR_DESCRIPTION, NO_ROOM};
+    struct numbering place = {"place", ask_place, ask_reference_place, q.position_length, SKEPTOLYR_POSITION, NO_POINT};
+    uint64_t decoded = ask_decode_thrice(&q, ask_check(&q));
+    ask_numbers_thrice(&q, &describe, decoded);
+    ask_numbers_thrice(&q, &place, decoded);
     take_back(file, length);
     return 0;
 }

@@ -30,6 +30,7 @@ REBUILDS = '200000'
 VALID_FILES = '3000'
 RUST = ['rustc', '--edition', '2021', '-C', 'overflow-checks=on']
 COMPILER = ['gcc', *archive.FLAGS, '-O2']
+LENDER = 'tests/help/lend.c'
 VECTORS = os.path.join(TOP, 'tests', 'evidence', 'vectors.rattle')
 
 
@@ -69,13 +70,12 @@ def native(crate, source):
 
 
 def lenders():
-    """The programs that call proved code from C: by name, a command for check and decode and one for describe and place."""
-    programs = (('skeptolyr', 'tests/help/lend.c'), ('tests_tell', 'tests/help/tell.c'))
-    found = {'the archive that users link': [archive.program(*program) for program in programs]}
+    """The commands of the program that calls proved code from C, by what it calls."""
+    found = {'the archive that users link': archive.program('skeptolyr', LENDER)}
     if platform.machine() == 'x86_64':
         print('The archive is native code on this machine: what goes through the one goes through the other.')
     else:
-        found['native code'] = [native(*program) for program in programs]
+        found['native code'] = native('skeptolyr', LENDER)
     return found
 
 
@@ -102,19 +102,18 @@ def decoder_tests():
 def compared(program):
     """Does the corpus go through every lender there is? It is one test, so that there are as many where the archive is native code."""
     results = []
-    for name, (lender, teller) in lenders().items():
+    for name, lender in lenders().items():
         print('%s, against the independent decoder:' % name, flush=True)
-        results.append(asked(program, 'compare', RULES, SEED, CASES, RECORD, '--', *lender, '--', *teller))
+        results.append(asked(program, 'compare', RULES, SEED, CASES, RECORD, '--', *lender))
     return all(results)
 
 
 def faults_found(program):
     """Is each fault found that stands between the lender and proved code?"""
-    faulty = archive.program('skeptolyr', 'tests/help/lend.c', 'tests/help/faulty.c', *RENAMED, name='faulty-lend')
-    teller = archive.program('tests_tell', 'tests/help/tell.c')
+    faulty = archive.program('skeptolyr', LENDER, 'tests/help/faulty.c', *RENAMED, name='faulty-lend')
     missed = []
     for number, what in list(enumerate(FAULTY))[1:]:
-        command = [program, 'compare', RULES, SEED, '0', os.devnull, '--', *faulty, '--', *teller]
+        command = [program, 'compare', RULES, SEED, '0', os.devnull, '--', *faulty]
         done = subprocess.run(command, cwd=TOP, stdout=subprocess.DEVNULL, stderr=subprocess.DEVNULL, env=dict(os.environ, FAULT=str(number)))
         missed += [what] if done.returncode != 1 else []
     print('%d faults between the archive and its caller, %d not found%s' % (len(FAULTY) - 1, len(missed), ''.join('\n  ' + what for what in missed)), flush=True)
@@ -211,13 +210,13 @@ def soak(minutes, seed=None):
     print('from seed %s on' % seed, flush=True)
     program, found = evidence(), lenders()
     share = str(max(1, int(minutes) // len(found)))
-    return 0 if all([asked(program, 'soak', share, seed, '--', *lender, '--', *teller) for lender, teller in found.values()]) else 1
+    return 0 if all([asked(program, 'soak', share, seed, '--', *lender) for lender in found.values()]) else 1
 
 
 def repeat(part, seed, number):
     program = evidence()
     rules, file = RULES if part == 'all' else 'none', os.path.join(BUILT, 'case.grib2')
-    return 0 if all([asked(program, 'repeat', rules, seed, number, file, '--', *lender, '--', *teller) for lender, teller in lenders().values()]) else 1
+    return 0 if all([asked(program, 'repeat', rules, seed, number, file, '--', *lender) for lender in lenders().values()]) else 1
 
 
 def main():

@@ -2,19 +2,20 @@
 use crate::walk::number_at;
 use std::io::{self, Read};
 
-/// What every octet of a lent run holds before a call. No presence is that, and no double of a field is made of it.
+/// What every octet of a lent run holds before a call. No presence is that, and no double or number of a field is made of it.
 const UNTOUCHED: u8 = 0xa5;
 
-/// The code of a refusal, or the numbers of an answer, each in eight octets; behind decode's point count every element of both runs.
+/// The answer's code in eight octets; where elements were written, every element of each run behind it.
 pub struct Answer {
     pub octets: Vec<u8>,
-    /// How many points decode writes, where it is not refused.
-    pub points: Option<u64>,
+    /// How many elements of each run were written, where the question has runs and is not refused.
+    pub written: Option<u64>,
 }
 
 impl Answer {
-    pub fn of_numbers(numbers: &[u64]) -> Answer {
-        Answer { octets: numbers.iter().flat_map(|number| number.to_be_bytes()).collect(), points: None }
+    /// The answer of check, or a refusal.
+    pub fn of_code(code: u64) -> Answer {
+        Answer { octets: code.to_be_bytes().to_vec(), written: None }
     }
 
     /// The answer of decode, with both runs as they lie in memory.
@@ -22,7 +23,14 @@ impl Answer {
         let mut octets = points.to_be_bytes().to_vec();
         octets.extend(values.iter().flat_map(|value| value.to_ne_bytes()));
         octets.extend(presence);
-        Answer { octets, points: Some(points) }
+        Answer { octets, written: Some(points) }
+    }
+
+    /// The answer of describe or place, with the run as it lies in memory.
+    pub fn of_numbers(put: u64, run: &[i64]) -> Answer {
+        let mut octets = put.to_be_bytes().to_vec();
+        octets.extend(run.iter().flat_map(|number| number.to_ne_bytes()));
+        Answer { octets, written: Some(put) }
     }
 
     pub fn code(&self) -> u64 {
@@ -62,6 +70,10 @@ pub fn untouched_runs(values_length: u64, presence_length: u64) -> (Vec<f64>, Ve
     (vec![value; values_length as usize], vec![UNTOUCHED; presence_length as usize])
 }
 
+pub fn untouched_numbers(length: u64) -> Vec<i64> {
+    vec![i64::from_ne_bytes([UNTOUCHED; 8]); length as usize]
+}
+
 /// A function from cases to the answers of the decoder that the named crate holds. The independent decoder and its faulty copies are different
 /// crates, whose types have the same names.
 #[macro_export]
@@ -72,18 +84,22 @@ macro_rules! answers_of {
             use $crate::cases::Question;
             let file: &[u8] = &case.file;
             let answer = match case.question {
-                Question::Check => $decoder::check(file).map(|counts| Answer::of_numbers(&[counts.code()])),
-                Question::Describe { k } => $decoder::describe(file, k).map(|description| Answer::of_numbers(&description.numbers())),
-                Question::Place { k, n } => $decoder::place(file, k, n).map(|(latitude, longitude)| {
-                    Answer::of_numbers(&[u64::from(latitude < 0), latitude.unsigned_abs(), u64::from(longitude)])
-                }),
+                Question::Check => $decoder::check(file).map(|counts| Answer::of_code(counts.code())),
+                Question::Describe { k, length } => {
+                    let mut numbers = $crate::answers::untouched_numbers(length);
+                    $decoder::describe_into(file, k, &mut numbers).map(|put| Answer::of_numbers(put, &numbers))
+                }
+                Question::Place { k, n, length } => {
+                    let mut position = $crate::answers::untouched_numbers(length);
+                    $decoder::place_into(file, k, n, &mut position).map(|put| Answer::of_numbers(put, &position))
+                }
                 Question::Decode { k, start, values_length, presence_length } => {
                     let (mut values, mut presence) = $crate::answers::untouched_runs(values_length, presence_length);
                     $decoder::decode(file, k, start, &mut values, &mut presence)
                         .map(|points| Answer::of_runs(u64::from(points), &values, &presence))
                 }
             };
-            answer.unwrap_or_else(|refusal| Answer::of_numbers(&[refusal.code()]))
+            answer.unwrap_or_else(|refusal| Answer::of_code(refusal.code()))
         }
     };
 }

@@ -9,8 +9,8 @@ use std::rc::Rc;
 #[derive(Clone, Debug)]
 pub enum Question {
     Check,
-    Describe { k: u64 },
-    Place { k: u64, n: u64 },
+    Describe { k: u64, length: u64 },
+    Place { k: u64, n: u64, length: u64 },
     Decode { k: u64, start: u64, values_length: u64, presence_length: u64 },
 }
 
@@ -21,6 +21,9 @@ pub struct Case {
     pub question: Question,
 }
 
+/// How many numbers describe a field, and how many tell a place.
+pub const DESCRIPTION: u64 = 53;
+pub const POSITION: u64 = 2;
 /// The most points of a field that runs are lent for. A damaged file may state many more: then the runs are too short.
 const MOST_POINTS: u64 = 4_000;
 
@@ -44,6 +47,15 @@ fn whole(k: u64, points: u64) -> Question {
     Question::Decode { k, start: 2, values_length: fitting + 1, presence_length: fitting + 2 }
 }
 
+/// Describe and place, with a number to spare in the run.
+pub fn described(k: u64) -> Question {
+    Question::Describe { k, length: DESCRIPTION + 1 }
+}
+
+pub fn placed(k: u64, n: u64) -> Question {
+    Question::Place { k, n, length: POSITION + 1 }
+}
+
 /// Check, and decode of the field whose turn it is.
 fn check_and_decode(points: &[u64], turn: usize) -> Vec<Question> {
     let k = turn % points.len();
@@ -52,13 +64,21 @@ fn check_and_decode(points: &[u64], turn: usize) -> Vec<Question> {
 
 fn whole_file(file: &[u8], take: &mut dyn FnMut(Case) -> bool) -> bool {
     let fields = (0..).zip(point_counts(file));
-    let each = fields.flat_map(|(k, points)| vec![Question::Describe { k }, whole(k, points), Question::Place { k, n: points - 1 }]);
+    let each = fields.flat_map(|(k, points)| vec![described(k), whole(k, points), placed(k, points - 1)]);
     ask("small base", &Rc::new(file.to_vec()), std::iter::once(Question::Check).chain(each).collect(), take)
 }
 
 fn prefixes(file: &[u8], take: &mut dyn FnMut(Case) -> bool) -> bool {
     let points = point_counts(file);
     (0..file.len()).all(|length| ask("prefix", &Rc::new(file[..length].to_vec()), check_and_decode(&points, length), take))
+}
+
+/// The length of a run for a description: in one turn of eight it has no room, and in the others it has.
+pub fn length_in_turn(turn: u64) -> u64 {
+    match turn % 8 {
+        0 => turn / 8 % DESCRIPTION,
+        spare => DESCRIPTION + spare - 1,
+    }
 }
 
 /// Every octet set to each of the 255 other values. The runs suffice for the points of the file as it was.
@@ -69,7 +89,7 @@ fn octet_changes(file: &[u8], take: &mut dyn FnMut(Case) -> bool) -> bool {
         changed[number / 255] = changed[number / 255].wrapping_add((number % 255) as u8 + 1);
         let (changed, k) = (Rc::new(changed), (number % points.len()) as u64);
         ask("octet changed", &changed, check_and_decode(&points, number), take)
-            && ask("octet changed, described", &changed, vec![Question::Describe { k }], take)
+            && ask("octet changed, described", &changed, vec![Question::Describe { k, length: length_in_turn(number as u64) }], take)
     })
 }
 
@@ -101,20 +121,29 @@ fn numbers_past(points: &[u64]) -> Vec<Question> {
     let mut found = Vec::new();
     for k in (0..fields + 3).chain(far()) {
         let whole = whole(k, points[0]);
-        found.extend(vec![Question::Describe { k }, whole, Question::Place { k, n: 0 }]);
+        found.extend(vec![described(k), whole, placed(k, 0)]);
     }
     for (k, points) in (0..).zip(points) {
         let near = (0..points + 3).chain(far());
-        found.extend(near.map(|n| Question::Place { k, n }));
+        found.extend(near.map(|n| placed(k, n)));
     }
     found
+}
+
+/// Describe and place of field k, and of points at and past their count, in runs of every length on either side of what is needed.
+fn lengths_of_numbers(k: u64, points: u64) -> Vec<Question> {
+    let numbers = [0, points - 1, points, u64::MAX];
+    let places = numbers.iter().flat_map(|n| (0..=POSITION + 3).map(move |length| Question::Place { k, n: *n, length }));
+    (0..=DESCRIPTION + 7).map(|length| Question::Describe { k, length }).chain(places).collect()
 }
 
 fn limits_of_questions(file: &[u8], take: &mut dyn FnMut(Case) -> bool) -> bool {
     let points = point_counts(file);
     let file = Rc::new(file.to_vec());
     let rooms = (0..).zip(&points).flat_map(|(k, points)| rooms(k, *points)).collect();
-    ask("rooms", &file, rooms, take) && ask("numbers past", &file, numbers_past(&points), take)
+    let past = (points.len() as u64, 1);
+    let lengths = (0..).zip(points.iter().copied()).chain([past]).flat_map(|(k, points)| lengths_of_numbers(k, points)).collect();
+    ask("rooms", &file, rooms, take) && ask("runs of every length", &file, lengths, take) && ask("numbers past", &file, numbers_past(&points), take)
 }
 
 /// Every question about every small base, questions around all their limits, every prefix, and every octet changed to every other value. The
@@ -148,6 +177,16 @@ fn decode(random: &mut Random, k: u64, points: u64) -> Question {
     Question::Decode { k, start, values_length, presence_length }
 }
 
+/// The length of a run for so many numbers: with some to spare, exactly fitting, or too short.
+fn length_for(random: &mut Random, numbers: u64) -> u64 {
+    match random.below(8) {
+        0 => random.below(numbers),
+        1 => numbers - 1,
+        2..=4 => numbers,
+        _ => numbers + random.below(6),
+    }
+}
+
 fn place(random: &mut Random, k: u64, points: u64) -> Question {
     let n = match random.below(12) {
         0 => *random.choose(&far()),
@@ -155,12 +194,13 @@ fn place(random: &mut Random, k: u64, points: u64) -> Question {
         2 => points.saturating_sub(1),
         _ => random.below(points.max(1)),
     };
-    Question::Place { k, n }
+    Question::Place { k, n, length: length_for(random, POSITION) }
 }
 
 /// All questions about field k.
 fn about_field(random: &mut Random, k: u64, points: u64) -> Vec<Question> {
-    vec![Question::Describe { k }, decode(random, k, points), place(random, k, points)]
+    let description = Question::Describe { k, length: length_for(random, DESCRIPTION) };
+    vec![description, decode(random, k, points), place(random, k, points)]
 }
 
 /// All questions about every field, and about one past the last or far past it.

@@ -44,17 +44,12 @@ impl Corpus {
     }
 }
 
-/// Does the question go to the archive that users link, or to the program that tells descriptions and places?
-pub fn is_for_users(question: &Question) -> bool {
-    matches!(question, Question::Check | Question::Decode { .. })
-}
-
 /// A question in words.
 pub fn shown(question: &Question) -> String {
     match question {
         Question::Check => "check".to_string(),
-        Question::Describe { k } => format!("describe field {}", k),
-        Question::Place { k, n } => format!("place of point {} in field {}", n, k),
+        Question::Describe { k, length } => format!("describe field {} in {} numbers", k, length),
+        Question::Place { k, n, length } => format!("place of point {} in field {} in {} numbers", n, k, length),
         Question::Decode { k, start, values_length, presence_length } => {
             format!("decode field {} from {} on into {} doubles and {} marks", k, start, values_length, presence_length)
         }

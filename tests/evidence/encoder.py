@@ -77,7 +77,7 @@ def decoded(program, files):
     asked = b''.join(grib.number(len(file), 8) + file for file in files)
     octets = subprocess.run(program + ['partly'], input=asked, stdout=subprocess.PIPE, check=True).stdout
     found = []
-    for fields, errors in readers.told_files(octets, 0):
+    for fields, errors in readers.told_files(octets, readers.DESCRIPTION):
         code = errors[0][1] if errors else None
         doubles = struct.unpack('>%dd' % (len(fields[0].doubles) // 8), fields[0].doubles) if fields else None
         found.append(Told(doubles, fields[0].presence if fields else None, (code >> 32 & 0x7fffffff, code & 0xffffffff) if errors else None))

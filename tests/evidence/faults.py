@@ -1,5 +1,10 @@
 """Faults for copies of the independent decoder, one at a time: what is wrong, the file, what stands there, and what the copy has in its place."""
 
+DESCRIBED, PLACED = 'put_numbers(&describe(file, k)?.numbers(), numbers)', 'let (latitude, longitude) = place(file, k, n)?;'
+PUT = 'run[..numbers.len()].copy_from_slice(numbers);'
+# Refuses a run that has no room for so many numbers.
+NO_ROOM = 'if %s.len() < %d {\n        return Err(Refusal::without_place(15));\n    }\n    '
+
 FAULTS = [
     # ---- tiling a file
     ('one octet more than the largest file is taken', 'tiling.rs', 'file.len() > LARGEST_FILE', 'file.len() > LARGEST_FILE + 1'),
@@ -88,4 +93,25 @@ FAULTS = [
     ('a point behind the last has a place', 'lib.rs', 'n >= grid.points()', 'n > grid.points()'),
     ('a longitude is not brought below 360 degrees', 'description.rs', ' % 360_000_000;', ';'),
     ('rows go north', 'description.rs', 'i128::from(self.first.latitude) - i128::from(row)', 'i128::from(self.first.latitude) + i128::from(row)'),
+    # ---- what C is given
+    ('latitudes are told by their sizes', 'description.rs', '[self.latitude, i64::from(self.longitude)]', '[self.latitude.abs(), i64::from(self.longitude)]'),
+    ('N is told as the point count', 'description.rs', 'numbers.extend([i64::from(self.n),', 'numbers.extend([self.grid.points() as i64,'),
+    ('the point count wraps at 16 bits', 'description.rs', 'self.points() as i64]', 'self.points() as u16 as i64]'),
+    ('Ni and Nj have changed places', 'description.rs', 'i64::from(self.ni), i64::from(self.nj)', 'i64::from(self.nj), i64::from(self.ni)'),
+    ('Di and Dj have changed places', 'description.rs', '[self.di, self.dj].map(i64::from)', '[self.dj, self.di].map(i64::from)'),
+    ('no level is told by all ones', 'description.rs', 'map_or([0, 0, 0],', 'map_or([0, 255, 0xFFFF_FFFF],'),
+    ('a factor is told by its size', 'description.rs', '[1, factor, i64::from(scaled_level)]', '[1, factor.abs(), i64::from(scaled_level)]'),
+    ('an instant has its valid time for its end', 'description.rs', 'numbers.extend(self.product.numbers());',
+     'let valid = [&[0], &time_numbers(self.valid_time)[..], &[0]].concat();\n        '
+     'numbers.extend(if self.product == Product::Instant { valid } else { self.product.numbers() });'),
+    ('a mean and a sum are told alike', 'description.rs', 'IntervalKind::Sum => 1,', 'IntervalKind::Sum => 0,'),
+    ('R is told with a sign', 'description.rs', 'i64::from(self.r), self.e, self.d]', 'i64::from(self.r as i32), self.e, self.d]'),
+    ('E is told by its size', 'description.rs', 'self.e, self.d]', 'self.e.abs(), self.d]'),
+    ('D is told by its size', 'description.rs', 'self.e, self.d]', 'self.e, self.d.abs()]'),
+    ('a run may be one number short', 'lib.rs', 'if run.len() < numbers.len() {', 'if run.len() + 1 < numbers.len() {'),
+    ('a run that just fits is refused', 'lib.rs', 'if run.len() < numbers.len() {', 'if run.len() <= numbers.len() {'),
+    ('what lies behind the numbers is cleared', 'lib.rs', PUT, 'run.fill(0);\n    ' + PUT),
+    ('a short run for a description is refused before all else', 'lib.rs', DESCRIBED, NO_ROOM % ('numbers', 53) + DESCRIBED),
+    ('a short run for a place is refused before all else', 'lib.rs', PLACED, NO_ROOM % ('position', 2) + PLACED),
+    ('15 is tried before 17', 'lib.rs', PLACED, 'describe(file, k)?;\n    ' + NO_ROOM % ('position', 2) + PLACED),
 ]

@@ -1,5 +1,5 @@
 //! Files on either side of the largest size that is taken, 268,435,456 octets. They are zero but for the heads of their sections.
-use crate::cases::{Case, Question};
+use crate::cases::{described, placed, Case, Question};
 use crate::make::{number, section6, Point, Scaling, Section1, Section3, Section4, Section5};
 use std::rc::Rc;
 
@@ -65,7 +65,8 @@ pub fn largest(take: &mut dyn FnMut(Case) -> bool) {
     let room = u64::from(LAST_POINTS) + 4;
     let decode = |k| Question::Decode { k, start: 3, values_length: room, presence_length: room };
     for file in &files {
-        for question in [Question::Check, decode(0), decode(fields - 1), decode(fields)] {
+        let decodes = [0, fields - 1, fields].map(decode);
+        for question in [Question::Check, described(fields - 1), placed(fields - 1, 1)].into_iter().chain(decodes) {
             take(Case { kind: "the largest size", file: Rc::clone(file), question });
         }
     }

@@ -1,13 +1,13 @@
 //! Talks with a program that puts cases to proved code: cases go out in one thread, and answers are compared in another as they come back.
 use crate::answers::{digest, Answer};
 use crate::cases::{Case, Question};
-use std::io::{self, BufRead, BufReader, BufWriter, Read, Write};
+use std::io::{self, BufReader, BufWriter, Read, Write};
 use std::process::{Child, ChildStdin, Command, ExitStatus, Stdio};
 use std::rc::Rc;
 use std::sync::mpsc::{sync_channel, Receiver, SyncSender};
 use std::thread::{self, JoinHandle};
 
-/// Stands for the file of the question before, and for no points.
+/// Stands for the file of the question before, and for no elements that are to be written.
 const NONE: u64 = u64::MAX;
 /// Files above this size are sent without their stretches of zeros, in at most so many patches.
 const PATCHED: usize = 1 << 20;
@@ -17,13 +17,6 @@ const MOST_PATCHES: usize = 64;
 const AWAITED: usize = 8192;
 /// The comparison ends with so many differences.
 const MOST_DIFFERENCES: usize = 5;
-
-/// The two programs: one asks check and decode of the archive that users link, the other describe and place.
-#[derive(Clone, Copy, PartialEq)]
-pub enum Form {
-    Lend,
-    Tell,
-}
 
 struct Awaited {
     number: u64,
@@ -44,7 +37,6 @@ pub struct Outcome {
 }
 
 pub struct Lender {
-    form: Form,
     process: Child,
     input: BufWriter<ChildStdin>,
     awaited: SyncSender<Awaited>,
@@ -53,26 +45,25 @@ pub struct Lender {
 }
 
 impl Lender {
-    pub fn start(form: Form, command: &[String]) -> io::Result<Lender> {
+    pub fn start(command: &[String]) -> io::Result<Lender> {
         let mut process = Command::new(&command[0]).args(&command[1..]).stdin(Stdio::piped()).stdout(Stdio::piped()).spawn()?;
         let input = BufWriter::with_capacity(1 << 16, process.stdin.take().unwrap());
         let output = BufReader::with_capacity(1 << 16, process.stdout.take().unwrap());
         let (awaited, expected) = sync_channel(AWAITED);
-        let comparing = thread::spawn(move || compare(form, output, expected));
-        Ok(Lender { form, process, input, awaited, comparing, file: None })
+        let comparing = thread::spawn(move || compare(output, expected));
+        Ok(Lender { process, input, awaited, comparing, file: None })
     }
 
     /// Puts a case, to be answered as given. An error means that the program has ended.
     pub fn put(&mut self, number: u64, case: &Case, answer: Answer) -> io::Result<()> {
-        let question = match (self.form, &case.question) {
-            (Form::Tell, Question::Describe { k }) => vec![1, *k, 0],
-            (Form::Tell, Question::Place { k, n }) => vec![2, *k, *n],
-            (_, Question::Decode { k, start, values_length, presence_length }) => {
-                vec![2, *k, *start, *values_length, *presence_length, answer.points.unwrap_or(NONE)]
-            }
-            _ => vec![1, 0, 0, 0, 0, NONE],
+        let question = match case.question {
+            Question::Check => [1, 0, 0, 0, 0, 0],
+            Question::Decode { k, start, values_length, presence_length } => [2, k, 0, start, values_length, presence_length],
+            Question::Describe { k, length } => [3, k, 0, 0, length, 0],
+            Question::Place { k, n, length } => [4, k, n, 0, length, 0],
         };
         self.write_numbers(&question)?;
+        self.write_numbers(&[answer.written.unwrap_or(NONE)])?;
         self.write_file(&case.file)?;
         self.awaited.send(Awaited { number, answer }).map_err(|_| io::Error::from(io::ErrorKind::BrokenPipe))
     }
@@ -87,9 +78,6 @@ impl Lender {
         }
         self.file = Some(Rc::clone(file));
         self.write_numbers(&[file.len() as u64])?;
-        if self.form == Form::Tell {
-            return self.input.write_all(file);
-        }
         let patches = patches(file);
         self.write_numbers(&[patches.len() as u64])?;
         for (start, end) in patches {
@@ -140,25 +128,16 @@ fn patches(file: &[u8]) -> Vec<(usize, usize)> {
     }
 }
 
-/// Reads an answer in the program's form.
-fn read(form: Form, output: &mut impl BufRead, length: usize) -> io::Result<Vec<u8>> {
-    if form == Form::Lend {
-        let mut octets = vec![0; length];
-        output.read_exact(&mut octets)?;
-        return Ok(octets);
-    }
-    let mut line = String::new();
-    output.read_line(&mut line)?;
-    if !line.ends_with('\n') {
-        return Err(io::Error::from(io::ErrorKind::UnexpectedEof));
-    }
-    Ok(line.split_whitespace().flat_map(|word| word.parse::<u64>().map_or(vec![], |number| number.to_be_bytes().to_vec())).collect())
+fn read(output: &mut impl Read, length: usize) -> io::Result<Vec<u8>> {
+    let mut octets = vec![0; length];
+    output.read_exact(&mut octets)?;
+    Ok(octets)
 }
 
-fn compare(form: Form, mut output: BufReader<impl Read>, expected: Receiver<Awaited>) -> Outcome {
+fn compare(mut output: BufReader<impl Read>, expected: Receiver<Awaited>) -> Outcome {
     let mut outcome = Outcome::default();
     for Awaited { number, answer } in expected {
-        let octets = match read(form, &mut output, answer.octets.len()) {
+        let octets = match read(&mut output, answer.octets.len()) {
             Ok(octets) => octets,
             Err(fault) => {
                 outcome.differences.push(Difference { number, what: format!("no answer came: {}", fault) });

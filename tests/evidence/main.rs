@@ -1,9 +1,9 @@
 //! Compares proved code with the independent decoder, case by case.
 //!
 //!   evidence told RULES                                          the independent decoder against what the rules say in words
-//!   evidence compare RULES SEED COUNT RECORD -- LENDER.. -- TELLER..   the whole corpus, COUNT cases of it from the seed; what is answered is recorded
-//!   evidence soak MINUTES SEED -- LENDER.. -- TELLER..           fresh seeds, one after the other, from SEED on
-//!   evidence repeat RULES SEED NUMBER FILE -- LENDER.. -- TELLER..     one case again, shown in words; its file is written to FILE
+//!   evidence compare RULES SEED COUNT RECORD -- LENDER..         the whole corpus, COUNT cases of it from the seed; what is answered is recorded
+//!   evidence soak MINUTES SEED -- LENDER..                       fresh seeds, one after the other, from SEED on
+//!   evidence repeat RULES SEED NUMBER FILE -- LENDER..           one case again, shown in words; its file is written to FILE
 //!   evidence listing SEED COUNT -- PROGRAM..                     what the listing program prints
 //!   evidence rebuild SEED COUNT -- PROGRAM..                     doubles one by one
 //!   evidence eccodes SEED COUNT -- PROGRAM..                     valid files as ecCodes reads them
@@ -26,9 +26,9 @@ mod vectors;
 mod walk;
 
 use answers::Answer;
-use cases::{Case, Question};
-use corpus::{is_for_users, shown, Corpus};
-use lender::{Difference, Form, Lender};
+use cases::Case;
+use corpus::{shown, Corpus};
+use lender::{Difference, Lender};
 use std::collections::BTreeMap;
 use std::fs;
 use std::io::{self, Write};
@@ -49,41 +49,27 @@ struct Tally {
     digests: Vec<(u64, u64)>,
 }
 
-struct Commands {
-    lender: Vec<String>,
-    teller: Vec<String>,
-}
-
 /// Puts every case of the corpus, or the one that is asked for by its number. Answers what differed.
-fn compare(corpus: &Corpus, only: Option<u64>, commands: &Commands, tally: &mut Tally) -> io::Result<Vec<Difference>> {
+fn compare(corpus: &Corpus, only: Option<u64>, command: &[String], tally: &mut Tally) -> io::Result<Vec<Difference>> {
     let by_reference = answers_of!(reference);
-    let mut lender = Lender::start(Form::Lend, &commands.lender)?;
-    let mut teller = Lender::start(Form::Tell, &commands.teller)?;
+    let mut lender = Lender::start(command)?;
     corpus.go_through(&mut |number, case| {
         if only.map_or(false, |wanted| wanted != number) {
             return only > Some(number);
         }
         let answer = by_reference(case);
         count(tally, case, &answer);
-        let program = if is_for_users(&case.question) { &mut lender } else { &mut teller };
-        program.put(number, case, answer).is_ok()
+        lender.put(number, case, answer).is_ok()
     });
-    let mut differences = Vec::new();
-    for outcome in [lender.finish(), teller.finish()] {
-        tally.compared += outcome.compared;
-        tally.digests.extend(outcome.digests);
-        differences.extend(outcome.differences);
-    }
-    Ok(differences)
+    let outcome = lender.finish();
+    tally.compared += outcome.compared;
+    tally.digests.extend(outcome.digests);
+    Ok(outcome.differences)
 }
 
 fn count(tally: &mut Tally, case: &Case, answer: &Answer) {
     *tally.kinds.entry(case.kind).or_insert(0) += 1;
-    let refused = match case.question {
-        Question::Place { .. } | Question::Describe { .. } if answer.octets.len() > 8 => 0,
-        _ => answers::refusal_number(answer.code()),
-    };
-    *tally.refusals.entry(refused).or_insert(0) += 1;
+    *tally.refusals.entry(answers::refusal_number(answer.code())).or_insert(0) += 1;
 }
 
 fn report(corpus: &Corpus, differences: &[Difference]) {
@@ -103,10 +89,10 @@ fn show(tally: &Tally) -> Vec<usize> {
     REFUSALS.filter(|number| !tally.refusals.contains_key(number)).collect()
 }
 
-fn whole_corpus(corpus: &Corpus, record: &str, commands: &Commands) -> io::Result<bool> {
+fn whole_corpus(corpus: &Corpus, record: &str, command: &[String]) -> io::Result<bool> {
     let started = Instant::now();
     let mut tally = Tally::default();
-    let differences = compare(corpus, None, commands, &mut tally)?;
+    let differences = compare(corpus, None, command, &mut tally)?;
     report(corpus, &differences);
     let missed = show(&tally);
     if !missed.is_empty() {
@@ -118,12 +104,12 @@ fn whole_corpus(corpus: &Corpus, record: &str, commands: &Commands) -> io::Resul
     Ok(differences.is_empty() && missed.is_empty())
 }
 
-fn soak(minutes: u64, first_seed: u64, commands: &Commands) -> io::Result<bool> {
+fn soak(minutes: u64, first_seed: u64, command: &[String]) -> io::Result<bool> {
     let (started, time) = (Instant::now(), Duration::from_secs(60 * minutes));
     let mut tally = Tally::default();
     let mut corpus = Corpus { rules: None, seed: first_seed, most: CASES_A_SEED };
     while started.elapsed() < time {
-        let differences = compare(&corpus, None, commands, &mut tally)?;
+        let differences = compare(&corpus, None, command, &mut tally)?;
         tally.digests.clear();
         report(&corpus, &differences);
         if !differences.is_empty() {
@@ -138,7 +124,7 @@ fn soak(minutes: u64, first_seed: u64, commands: &Commands) -> io::Result<bool> 
     Ok(true)
 }
 
-fn repeat(corpus: &Corpus, number: u64, file: &str, commands: &Commands) -> io::Result<bool> {
+fn repeat(corpus: &Corpus, number: u64, file: &str, command: &[String]) -> io::Result<bool> {
     let by_reference = answers_of!(reference);
     let mut found = false;
     corpus.go_through(&mut |at, case| {
@@ -150,7 +136,7 @@ fn repeat(corpus: &Corpus, number: u64, file: &str, commands: &Commands) -> io::
         }
         at < number
     });
-    let differences = compare(corpus, Some(number), commands, &mut Tally::default())?;
+    let differences = compare(corpus, Some(number), command, &mut Tally::default())?;
     report(corpus, &differences);
     if found && differences.is_empty() {
         println!("proved code answers the same");
@@ -177,18 +163,16 @@ fn number(word: &str) -> u64 {
 }
 
 fn run(words: &[String]) -> io::Result<bool> {
-    let (given, rest) = split(words);
-    let (lender, rest) = split(rest);
-    let commands = Commands { lender, teller: split(rest).0 };
+    let (given, command) = split(words);
     let given: Vec<&str> = given.iter().map(String::as_str).collect();
     match given[..] {
         ["told", rules] => Ok(rules::hold(&rules::read(rules)?)),
-        ["compare", rules, seed, most, record] => whole_corpus(&corpus_of(rules, seed, number(most))?, record, &commands),
-        ["soak", minutes, seed] => soak(number(minutes), number(seed), &commands),
-        ["repeat", rules, seed, case, file] => repeat(&corpus_of(rules, seed, u64::MAX)?, number(case), file, &commands),
-        ["listing", seed, most] => programs::listing(number(seed), number(most), &commands.lender),
-        ["rebuild", seed, most] => programs::rebuild(number(seed), number(most), &commands.lender),
-        ["eccodes", seed, most] => eccodes::eccodes(number(seed), number(most), &commands.lender),
+        ["compare", rules, seed, most, record] => whole_corpus(&corpus_of(rules, seed, number(most))?, record, command),
+        ["soak", minutes, seed] => soak(number(minutes), number(seed), command),
+        ["repeat", rules, seed, case, file] => repeat(&corpus_of(rules, seed, u64::MAX)?, number(case), file, command),
+        ["listing", seed, most] => programs::listing(number(seed), number(most), command),
+        ["rebuild", seed, most] => programs::rebuild(number(seed), number(most), command),
+        ["eccodes", seed, most] => eccodes::eccodes(number(seed), number(most), command),
         ["vectors", name, seed, folder] => vectors::write(name, number(seed), folder),
         _ => Err(io::Error::new(io::ErrorKind::InvalidInput, "no such command")),
     }

@@ -2,7 +2,7 @@
 //! come here as a file, so that the independent decoder is held to them too.
 use crate::answers::{read_number, Answer};
 use crate::answers_of;
-use crate::cases::{Case, Question};
+use crate::cases::{described, placed, Case, Question, DESCRIPTION, POSITION};
 use std::fs;
 use std::io::{self, Read};
 use std::rc::Rc;
@@ -30,7 +30,7 @@ fn rule(from: &mut impl Read) -> io::Result<Rule> {
     let (kind, k, told, length) = (read_number(from)?, read_number(from)?, read_number(from)?, read_number(from)?);
     let question = match kind {
         CHECK => Question::Check,
-        DESCRIBE => Question::Describe { k },
+        DESCRIBE => described(k),
         _ => decode(k),
     };
     let mut file = vec![0; length as usize];
@@ -49,9 +49,8 @@ pub fn read(path: &str) -> io::Result<Vec<Rule>> {
 }
 
 fn is_as_told(answer: &Answer, told: u64) -> bool {
-    let is_refused = answer.octets.len() == 8 && answer.code() >> 63 == 1;
     if told == TAKEN {
-        !is_refused
+        answer.written.is_some()
     } else {
         answer.octets[..8] == told.to_be_bytes()
     }
@@ -76,10 +75,11 @@ pub fn hold(rules: &[Rule]) -> bool {
 pub fn cases(rules: &[Rule], take: &mut dyn FnMut(Case) -> bool) {
     for rule in rules {
         let k = match rule.question {
-            Question::Describe { k } | Question::Decode { k, .. } => k,
+            Question::Describe { k, .. } | Question::Decode { k, .. } => k,
             _ => 0,
         };
-        for question in [Question::Check, Question::Describe { k }, Question::Place { k, n: 1 }, decode(k)] {
+        let short = [Question::Describe { k, length: DESCRIPTION - 1 }, Question::Place { k, n: 1, length: POSITION - 1 }];
+        for question in [Question::Check, described(k), placed(k, 1), decode(k)].into_iter().chain(short) {
             take(Case { kind: "either side of a rule", file: Rc::clone(&rule.file), question });
         }
     }

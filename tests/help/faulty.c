@@ -1,9 +1,11 @@
 /* Stands between a test program and the proved code, and puts in the fault whose number the environment's FAULT gives: none for 0.
  *
- * The test must find each, so that it is known to find what it looks for. The program is compiled to call these two functions in the library's place. */
+ * The test must find each, so that it is known to find what it looks for. The program is compiled to call these functions in the library's place. */
 /* Here the library's functions are meant by their names, wherever the program's calls go. */
 #undef skeptolyr_check
 #undef skeptolyr_decode
+#undef skeptolyr_describe
+#undef skeptolyr_place
 #include "skeptolyr.h"
 
 #include <stdlib.h>
@@ -11,6 +13,8 @@
 
 uint64_t faulty_check(const uint8_t *file, size_t file_len);
 uint64_t faulty_decode(const uint8_t *file, size_t file_len, size_t k, size_t start, double *values, size_t values_len, uint8_t *presence, size_t presence_len);
+uint64_t faulty_describe(const uint8_t *file, size_t file_len, size_t k, int64_t *numbers, size_t numbers_len);
+uint64_t faulty_place(const uint8_t *file, size_t file_len, size_t k, size_t n, int64_t *position, size_t position_len);
 
 /* In the order of tests/help/faulty.py's table. */
 enum {
@@ -24,8 +28,17 @@ enum {
     /* of decode's refusal */
     WRITES_AND_REFUSES, OTHER_NUMBER, NUMBER_PAST, PLACE_BESIDE, PLACE_OUTSIDE,
     /* of decode's elements */
-    WRITES_BEHIND, WRITES_BESIDE, CHANGES_A_BIT, CHANGES_EVERY_SECOND, WRONG_PRESENCE, MISSING_GIVEN, MINUS_ZERO, NOT_FINITE
+    WRITES_BEHIND, WRITES_BESIDE, CHANGES_A_BIT, CHANGES_EVERY_SECOND, WRONG_PRESENCE, MISSING_GIVEN, MINUS_ZERO, NOT_FINITE,
+    /* of describe */
+    DESCRIBES_FIELD_0, NUMBER_MORE, NUMBER_EVERY_SECOND, NUMBERS_SWAPPED, SIGNS_LOST, NO_LEVEL_AS_ONES, DESCRIBE_ANSWERS_MORE, DESCRIBE_WRITES_BEHIND,
+    DESCRIBE_WRITES_BESIDE, DESCRIBE_ROOM_FIRST, DESCRIBE_PUTS_WHAT_FITS, DESCRIBE_WRITES_AND_REFUSES,
+    /* of place */
+    PLACES_POINT_0, PLACE_SWAPPED, LATITUDE_SIGN_LOST, PLACES_BEHIND_LAST, PLACE_WRITES_BEHIND, PLACE_WRITES_BESIDE, PLACE_ROOM_FIRST, PLACE_ROOM_BEFORE_POINT,
+    PLACE_PUTS_WHAT_FITS, PLACE_WRITES_AND_REFUSES
 };
+
+/* Where numbers of a description stand. */
+enum { NI = 10, NJ = 11, FACTOR = 24, SCALED = 25, START_OF_7 = 52 };
 
 static int fault(void)
 {
@@ -109,11 +122,11 @@ static uint64_t change_refusal(uint64_t answer, size_t file_len)
     case OTHER_NUMBER:
         return refusal(number + 1, place);
     case NUMBER_PAST:
-        return number > 8 ? refusal(number + 8, place) : answer;
+        return number > SKEPTOLYR_NO_SUCH_FIELD ? refusal(number + 8, place) : answer;
     case PLACE_BESIDE:
-        return place > 0 ? answer - 1 : answer;
+        return number > SKEPTOLYR_NO_SUCH_FIELD && place > 0 ? answer - 1 : answer;
     case PLACE_OUTSIDE:
-        return place > 0 ? refusal(number, (uint32_t)file_len) : answer;
+        return number > SKEPTOLYR_NO_SUCH_FIELD && place > 0 ? refusal(number, (uint32_t)file_len) : answer;
     default:
         return answer;
     }
@@ -153,4 +166,102 @@ uint64_t faulty_decode(const uint8_t *file, size_t file_len, size_t k, size_t st
     }
     change_elements(start, (size_t)answer, values, values_len, presence, is_second);
     return change_answer(answer, is_second);
+}
+
+/* ---- numbers */
+
+static int is_refused_by(uint64_t answer, uint32_t number)
+{
+    return skeptolyr_is_refusal(answer) && skeptolyr_refusal_number(answer) == number;
+}
+
+static void swap(int64_t *one, int64_t *other)
+{
+    int64_t kept = *one;
+    *one = *other;
+    *other = kept;
+}
+
+/* Writes the first numbers of those that were put, as many as a run has room for. The answer is how many they are. */
+static uint64_t put_what_fits(const int64_t *put, int64_t *run, size_t run_len)
+{
+    memcpy(run, put, run_len * sizeof *run);
+    return run_len;
+}
+
+/* Writes behind a run, or into it behind the numbers that were put. */
+static void write_more(int64_t *run, size_t run_len, size_t put, int writes_behind, int writes_beside)
+{
+    if (writes_behind)
+        run[run_len] = 0;
+    if (writes_beside && run_len > put)
+        run[put] = 0;
+}
+
+static void change_numbers(int64_t *numbers, int is_second)
+{
+    if (fault() == NUMBER_MORE || (fault() == NUMBER_EVERY_SECOND && is_second))
+        numbers[START_OF_7]++;
+    if (fault() == NUMBERS_SWAPPED)
+        swap(numbers + NI, numbers + NJ);
+    for (int i = 0; fault() == SIGNS_LOST && i < SKEPTOLYR_DESCRIPTION; i++)
+        numbers[i] = numbers[i] < 0 ? -numbers[i] : numbers[i];
+    if (fault() == NO_LEVEL_AS_ONES && numbers[FACTOR - 1] == 0) {
+        numbers[FACTOR] = 255;
+        numbers[SCALED] = UINT32_MAX;
+    }
+}
+
+uint64_t faulty_describe(const uint8_t *file, size_t file_len, size_t k, int64_t *numbers, size_t numbers_len)
+{
+    static unsigned int calls;
+    int is_second = calls++ % 2;
+    int64_t own[SKEPTOLYR_DESCRIPTION];
+    if (fault() == DESCRIBE_ROOM_FIRST && numbers_len < SKEPTOLYR_DESCRIPTION)
+        return refusal(SKEPTOLYR_NO_ROOM, 0);
+    uint64_t answer = skeptolyr_describe(file, file_len, fault() == DESCRIBES_FIELD_0 ? 0 : k, numbers, numbers_len);
+    if (skeptolyr_is_refusal(answer)) {
+        if (fault() == DESCRIBE_PUTS_WHAT_FITS && is_refused_by(answer, SKEPTOLYR_NO_ROOM)) {
+            skeptolyr_describe(file, file_len, k, own, SKEPTOLYR_DESCRIPTION);
+            return put_what_fits(own, numbers, numbers_len);
+        }
+        if (fault() == DESCRIBE_WRITES_AND_REFUSES && numbers_len > 0)
+            numbers[numbers_len - 1] = 0;
+        return answer;
+    }
+    change_numbers(numbers, is_second);
+    write_more(numbers, numbers_len, SKEPTOLYR_DESCRIPTION, fault() == DESCRIBE_WRITES_BEHIND, fault() == DESCRIBE_WRITES_BESIDE);
+    return answer + (fault() == DESCRIBE_ANSWERS_MORE);
+}
+
+/* What a refused call to place comes to. */
+static uint64_t place_refused(uint64_t answer, const uint8_t *file, size_t file_len, size_t k, size_t n, int64_t *position, size_t position_len)
+{
+    int64_t own[SKEPTOLYR_POSITION];
+    if (fault() == PLACE_ROOM_BEFORE_POINT && is_refused_by(answer, SKEPTOLYR_NO_SUCH_POINT) && position_len < SKEPTOLYR_POSITION)
+        return refusal(SKEPTOLYR_NO_ROOM, 0);
+    if (fault() == PLACE_PUTS_WHAT_FITS && is_refused_by(answer, SKEPTOLYR_NO_ROOM)) {
+        skeptolyr_place(file, file_len, k, n, own, SKEPTOLYR_POSITION);
+        return put_what_fits(own, position, position_len);
+    }
+    if (fault() == PLACES_BEHIND_LAST && is_refused_by(answer, SKEPTOLYR_NO_SUCH_POINT))
+        return skeptolyr_place(file, file_len, k, n - 1, position, position_len);
+    if (fault() == PLACE_WRITES_AND_REFUSES && position_len > 0)
+        position[position_len - 1] = 0;
+    return answer;
+}
+
+uint64_t faulty_place(const uint8_t *file, size_t file_len, size_t k, size_t n, int64_t *position, size_t position_len)
+{
+    if (fault() == PLACE_ROOM_FIRST && position_len < SKEPTOLYR_POSITION)
+        return refusal(SKEPTOLYR_NO_ROOM, 0);
+    uint64_t answer = skeptolyr_place(file, file_len, k, fault() == PLACES_POINT_0 ? 0 : n, position, position_len);
+    if (skeptolyr_is_refusal(answer))
+        return place_refused(answer, file, file_len, k, n, position, position_len);
+    if (fault() == PLACE_SWAPPED)
+        swap(position, position + 1);
+    if (fault() == LATITUDE_SIGN_LOST && position[0] < 0)
+        position[0] = -position[0];
+    write_more(position, position_len, SKEPTOLYR_POSITION, fault() == PLACE_WRITES_BEHIND, fault() == PLACE_WRITES_BESIDE);
+    return answer;
 }

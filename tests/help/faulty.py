@@ -18,8 +18,8 @@ FAULTS = [
     'decode writes and refuses',
     "a refusal's number is one more",
     "a refusal's number is past the last",
-    "a refusal's place is one less",
-    "a refusal's place is behind the file",
+    "the place of a field's refusal is one less",
+    "the place of a field's refusal is behind the file",
     'decode writes behind a run',
     'decode writes behind its stretch',
     'the last bit of a double is another',
@@ -28,6 +28,30 @@ FAULTS = [
     'a missing point is given 1',
     'a double is -0',
     'a double is infinite',
+    'describe gives field 0 for every field',
+    'a number of a description is one more',
+    'a number of a description is one more the second time',
+    'two numbers of a description have changed places',
+    'numbers below 0 lose their signs',
+    'no level is told by all ones',
+    'describe answers one number more',
+    'describe writes behind the run',
+    'describe writes behind its numbers',
+    'describe refuses a short run before all else',
+    'describe puts as many numbers as there is room for',
+    'describe writes and refuses',
+    'place gives point 0 for every point',
+    'latitude and longitude have changed places',
+    'a latitude below 0 loses its sign',
+    'a point behind the last has a place',
+    'place writes behind the run',
+    'place writes behind its numbers',
+    'place refuses a short run before all else',
+    'place refuses a short run before a point that is not there',
+    'place puts as many numbers as there is room for',
+    'place writes and refuses',
 ]
+# The numbers of the faults of describe and place.
+OF_NUMBERS = range(FAULTS.index('describe gives field 0 for every field'), len(FAULTS))
 # The words that have a compiler call the faulty functions in the library's place.
-RENAMED = ['-Dskeptolyr_%s=faulty_%s' % (name, name) for name in ('check', 'decode')]
+RENAMED = ['-Dskeptolyr_%s=faulty_%s' % (name, name) for name in ('check', 'decode', 'describe', 'place')]

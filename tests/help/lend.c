@@ -1,14 +1,14 @@
-/* Puts each question of standard input to skeptolyr_check or skeptolyr_decode, and writes the answer and both lent runs whole.
+/* Puts each question of standard input to one of the four functions of skeptolyr.h, and writes the answer and every lent run whole.
  *
- * A question is its kind (1 check, 2 decode), k, start, the lengths of both runs, the points that are to be written from `start` on (2^64 - 1
- * where the call is to be refused), the file's length, the number of its patches, and each patch: its place, its length, its octets. Between
- * its patches a file is zero. The length 2^64 - 1 stands for the file of the question before. Numbers have eight octets, the first counting most.
- * What is written is the answer, in eight octets likewise, and where points are to be written every element of the run of doubles as it lies in
- * memory, and every element of the run of presence.
+ * A question is its kind (1 check, 2 decode, 3 describe, 4 place), k, n, start, the lengths of two runs, how many elements of each run are to be written from
+ * `start` on (2^64 - 1 where the call is to be refused), the file's length, the number of its patches, and each patch: its place, its length, its octets.
+ * Between its patches a file is zero. The length 2^64 - 1 stands for the file of the question before. Numbers have eight octets, the first counting most.
+ * Decode is lent a run of doubles and one of presence, describe and place a run of numbers, which start at its first element, and check none.
+ * What is written is the answer, in eight octets likewise, and where elements are to be written every element of each run, as it lies in memory.
  *
  * Whatever a call has no business with cannot be reached, and touching it ends the program. The file lies in memory that can only be read, once
  * right behind an unreadable page and once right before one. The runs of a call that is to be refused lie in memory that can be neither read nor
- * written. Those of another call are lent twice: once everything before the field's stretch is out of reach, and once everything behind it.
+ * written. Those of another call are lent twice: once everything before the stretch that is written is out of reach, and once everything behind it.
  * Both times the answer and the stretch must be the same. */
 #include "lent.h"
 #include "skeptolyr.h"
@@ -17,12 +17,12 @@
 #include <string.h>
 #include <unistd.h>
 
-enum { CHECK = 1, DECODE = 2, MOST_PATCHES = 64, UNTOUCHED = 0xa5 };
+enum { CHECK = 1, DECODE = 2, DESCRIBE = 3, PLACE = 4, MOST_RUNS = 2, MOST_PATCHES = 64, UNTOUCHED = 0xa5 };
 
 static const uint64_t none = UINT64_MAX;
 
 struct question {
-    uint64_t kind, k, start, values_length, presence_length, points;
+    uint64_t kind, k, n, start, lengths[MOST_RUNS], written;
 };
 
 struct patch {
@@ -125,19 +125,27 @@ static void get_file(struct file *file, struct view front, struct view back)
     }
 }
 
+/* How many runs a question lends. */
+static int runs_of(const struct question *q)
+{
+    return q->kind == CHECK ? 0 : q->kind == DECODE ? 2 : 1;
+}
+
 static int get_question(struct question *q)
 {
     if (!get_number(&q->kind))
         return 0;
     q->k = number();
+    q->n = number();
     q->start = number();
-    q->values_length = number();
-    q->presence_length = number();
-    q->points = number();
-    demand(q->kind == CHECK || q->kind == DECODE, "there is no such question");
-    demand(q->values_length <= run_room / sizeof(double) && q->presence_length <= run_room, "a run is too long");
-    demand(q->points == none || (q->start <= q->values_length && q->points <= q->values_length - q->start), "the stretch is outside the run");
-    demand(q->points == none || (q->start <= q->presence_length && q->points <= q->presence_length - q->start), "the stretch is outside the run");
+    for (int i = 0; i < MOST_RUNS; i++) {
+        q->lengths[i] = number();
+        demand(q->lengths[i] <= run_room / (i == 0 ? sizeof(double) : 1), "a run is too long");
+    }
+    q->written = number();
+    demand(q->kind >= CHECK && q->kind <= PLACE, "there is no such question");
+    for (int i = 0; i < runs_of(q); i++)
+        demand(q->written == none || (q->start <= q->lengths[i] && q->written <= q->lengths[i] - q->start), "the stretch is outside the run");
     return 1;
 }
 
@@ -155,22 +163,26 @@ static uint8_t *nothing_behind(struct run r, uint64_t end)
     return r.first + run_room - end * r.size;
 }
 
-static uint64_t decode(struct question q, const uint8_t *file, uint64_t length, uint8_t *values, uint8_t *presence)
+/* Asks about a file at `file`, with runs that begin at `first` and `second`. */
+static uint64_t ask(struct question q, const uint8_t *file, uint64_t length, void *first, void *second)
 {
-    return skeptolyr_decode(file, length, q.k, q.start, (double *)(void *)values, q.values_length, presence, q.presence_length);
+    switch (q.kind) {
+    case CHECK:
+        return skeptolyr_check(file, length);
+    case DECODE:
+        return skeptolyr_decode(file, length, q.k, q.start, first, q.lengths[0], second, q.lengths[1]);
+    case DESCRIBE:
+        return skeptolyr_describe(file, length, q.k, first, q.lengths[0]);
+    default:
+        return skeptolyr_place(file, length, q.k, q.n, first, q.lengths[0]);
+    }
 }
 
-/* The answer to a question about a file at `front`, and again at `back`, to be refused: no run can be touched. */
-static uint64_t refused(struct question q, uint64_t length, const uint8_t *front, const uint8_t *back, struct run values, struct run presence)
+/* The answer to a question about a file at `front`, and again at `back`: no run can be touched. */
+static uint64_t refused(struct question q, uint64_t length, const uint8_t *front, const uint8_t *back, const struct run *runs)
 {
-    uint64_t code, again;
-    if (q.kind == CHECK) {
-        code = skeptolyr_check(front, length);
-        again = skeptolyr_check(back, length);
-    } else {
-        code = decode(q, front, length, values.first - run_room, presence.first - run_room);
-        again = decode(q, back, length, values.first + run_room, presence.first + run_room);
-    }
+    uint64_t code = ask(q, front, length, runs[0].first - run_room, runs[1].first - run_room);
+    uint64_t again = ask(q, back, length, runs[0].first + run_room, runs[1].first + run_room);
     demand(code == again, "two answers at two places of memory");
     return code;
 }
@@ -181,21 +193,23 @@ static void put(uint64_t code)
         putchar((int)(code >> i & 255));
 }
 
-/* Decodes twice into two pairs of runs, and writes the answer and every element: those before the stretch as they are after the call that could
- * reach them, and the others likewise. */
+/* Asks twice, with two sets of runs, and writes the answer and every element: those before the stretch as they are after the call that could reach them,
+ * and the others likewise. */
 static void answered(struct question q, uint64_t length, const uint8_t *front, const uint8_t *back, const struct run *one, const struct run *other)
 {
-    uint64_t end = q.start + q.points, lengths[] = {q.values_length, q.presence_length};
-    uint8_t *at[] = {nothing_before(one[0], q.start, lengths[0]), nothing_before(one[1], q.start, lengths[1])};
-    uint8_t *again_at[] = {nothing_behind(other[0], end), nothing_behind(other[1], end)};
-    uint64_t code = decode(q, front, length, at[0], at[1]), again = decode(q, back, length, again_at[0], again_at[1]);
+    uint8_t *at[MOST_RUNS] = {NULL}, *again_at[MOST_RUNS] = {NULL};
+    for (int i = 0; i < runs_of(&q); i++) {
+        at[i] = nothing_before(one[i], q.start, q.lengths[i]);
+        again_at[i] = nothing_behind(other[i], q.start + q.written);
+    }
+    uint64_t code = ask(q, front, length, at[0], at[1]), again = ask(q, back, length, again_at[0], again_at[1]);
     demand(code == again, "two answers at two places of memory");
     put(code);
-    for (int i = 0; i < 2; i++) {
+    for (int i = 0; i < runs_of(&q); i++) {
         size_t size = one[i].size;
-        demand(memcmp(one[i].first, again_at[i] + q.start * size, q.points * size) == 0, "two stretches at two places of memory");
+        demand(memcmp(one[i].first, again_at[i] + q.start * size, q.written * size) == 0, "two stretches at two places of memory");
         fwrite(again_at[i], size, q.start, stdout);
-        fwrite(one[i].first, size, lengths[i] - q.start, stdout);
+        fwrite(one[i].first, size, q.lengths[i] - q.start, stdout);
     }
 }
 
@@ -209,15 +223,15 @@ int main(void)
     file_room = (UINT64_C(1) << 28) + page;
     run_room = (UINT64_C(1) << 26) / page * page;
     struct view front = new_view(), back = new_view();
-    struct run one[] = {new_run(sizeof(double)), new_run(1)}, other[] = {new_run(sizeof(double)), new_run(1)};
+    struct run one[MOST_RUNS] = {new_run(sizeof(double)), new_run(1)}, other[MOST_RUNS] = {new_run(sizeof(double)), new_run(1)};
 
     while (get_question(&q)) {
         get_file(&file, front, back);
         const uint8_t *last = back.lent + file_room - file.length;
-        if (q.kind == DECODE && q.points != none)
+        if (q.written != none)
             answered(q, file.length, front.lent, last, one, other);
         else
-            put(refused(q, file.length, front.lent, last, one[0], one[1]));
+            put(refused(q, file.length, front.lent, last, one));
     }
     return 0;
 }

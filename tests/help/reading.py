@@ -1,5 +1,5 @@
 """An independent reading of docs/RULES.md, from its paragraphs: check, describe, decode and place, in Python's own whole numbers, times and
-doubles."""
+doubles; and the rows of numbers that C is given of a description and of a place."""
 import datetime
 import functools
 import struct
@@ -301,6 +301,43 @@ def place(file, k, n):
     j, i = divmod(n, g['ni'])
     return g['first'][0] - j * g['dj'], (g['first'][1] + i * g['di']) % TURN
 
+
+# ---- what C is given
+
+def time_numbers(time):
+    return [time.year, time.month, time.day, time.hour, time.minute, time.second]
+
+
+def numbers(told):
+    """The 53 numbers of a description, in their order."""
+    g = told['grid']
+    found = [told['discipline'], told['status'], *time_numbers(told['reference'])]
+    found += [g['earth'], g['radius'], g['ni'], g['nj'], g['ni'] * g['nj'], *g['first'], *g['last'], g['di'], g['dj']]
+    found += [told['category'], told['parameter'], told['process'], told['surface']]
+    found += [0, 0, 0] if told['level'] is None else [1, *told['level']]
+    found += [0] * 8 if told['product'] is None else [8, *time_numbers(told['product'][0]), told['product'][1]]
+    found += [*time_numbers(told['valid']), told['n'], told['r'], told['e'], told['d'], told['bits'], told['template'], told['indicator']]
+    return found + told['starts']
+
+
+def in_run(found, length):
+    """Numbers for a run of so many elements. That the run has no room for them is the last refusal of all."""
+    if length < len(found):
+        raise Refused(15, 0)
+    return found
+
+
+def describe_in_run(file, k, length):
+    """What skeptolyr_describe is to put at the start of a run."""
+    return in_run(numbers(describe(file, k)), length)
+
+
+def place_in_run(file, k, n, length):
+    """What skeptolyr_place is to put at the start of a run."""
+    return in_run(list(place(file, k, n)), length)
+
+
+# ---- the listing
 
 def digits(time):
     return '%04d%02d%02d%02d%02d%02d' % (time.year, time.month, time.day, time.hour, time.minute, time.second)

@@ -15,7 +15,7 @@ import subprocess
 import sys
 import tempfile
 
-from tests.help import grib, reading
+from tests.help import grib
 from tools import TOP, archive, debian
 
 SECONDS = 10
@@ -24,6 +24,8 @@ MEMORY = 1 << 30
 OWN_FAULT = 2
 HERE = os.path.dirname(os.path.abspath(__file__))
 COMPILER = ['gcc', *archive.FLAGS, '-O2']
+# How many numbers Skeptolyr describes a field by.
+DESCRIPTION = 53
 
 Told = collections.namedtuple('Told', 'fields errors printed ended')
 Field = collections.namedtuple('Field', 'thing says doubles presence')
@@ -108,11 +110,11 @@ class Program:
 
 
 class Skeptolyr(Program):
-    """The archive that users link. What a field says of itself, which C cannot ask, is what the independent reading says, with which the tests compare
-    describe."""
+    """The archive that users link."""
 
     def __init__(self, given):
-        super().__init__('Skeptolyr', None, None, 'skeptolyr', [], 0)
+        # The status, the kind of process, and all from N on are not compared: the last six are places of one file only.
+        super().__init__('Skeptolyr', None, None, 'skeptolyr', [], DESCRIPTION, {1, 21, *range(40, DESCRIPTION)})
         self.given = given
 
     def make(self):
@@ -122,15 +124,9 @@ class Skeptolyr(Program):
         else:
             self.command = archive.program('skeptolyr', os.path.join('tests', 'peers', 'skeptolyr.c'))
 
-    def tell(self, file):
-        told = super().tell(file)
-        return told._replace(fields=[field._replace(says=sayings(file, field.thing)) for field in told.fields])
-
-
-def sayings(file, k):
-    """What describe says of a field, but for the places and counts that are of one file only."""
-    told = reading.describe(file, k)
-    return [told[name] for name in ('discipline', 'reference', 'grid', 'category', 'parameter', 'surface', 'level', 'valid', 'product')]
+    def sayings(self, numbers):
+        """What is compared of a description's numbers, as told.h has them."""
+        return [number % 2 ** 64 for at, number in enumerate(numbers) if at not in self.packing]
 
 
 # ---- GDAL, through its commands

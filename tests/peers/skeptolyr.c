@@ -1,5 +1,5 @@
-/* Asks Skeptolyr for every field of each file of standard input (told.h): check, and where it accepts the file, decode of every field. An error is
- * the answer of check or of decode, which holds the refusal's number and its place. A field has no numbers here, for C cannot ask for its description. */
+/* Asks Skeptolyr for every field of each file of standard input (told.h): check, and where it accepts the file, describe and decode of every field. An error
+ * is the answer of one of them, which holds the refusal's number and its place. The numbers of a field are those of its description. */
 #include "told.h"
 
 #include "skeptolyr.h"
@@ -12,12 +12,17 @@ static uint8_t *presence;
 
 static void tell_field(struct file file, size_t k, struct told *told)
 {
-    uint64_t answer = skeptolyr_decode(file.octets, file.length, k, 0, values, MOST_POINTS, presence, MOST_POINTS);
+    int64_t numbers[SKEPTOLYR_DESCRIPTION];
+    uint64_t answer = skeptolyr_describe(file.octets, file.length, k, numbers, SKEPTOLYR_DESCRIPTION);
+    if (!skeptolyr_is_refusal(answer))
+        answer = skeptolyr_decode(file.octets, file.length, k, 0, values, MOST_POINTS, presence, MOST_POINTS);
     begin(told);
     if (skeptolyr_is_refusal(answer)) {
         end(told, answer);
         return;
     }
+    for (int i = 0; i < SKEPTOLYR_DESCRIPTION; i++)
+        tell_number(told, (uint64_t)numbers[i]);
     tell_number(told, answer);
     for (uint64_t i = 0; i < answer; i++)
         tell_double(told, values[i]);

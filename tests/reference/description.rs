@@ -13,9 +13,8 @@ pub struct GridPoint {
 }
 
 impl GridPoint {
-    fn numbers(self) -> [u64; 3] {
-        let [sign, size] = sign_and_size(self.latitude);
-        [sign, size, u64::from(self.longitude)]
+    fn numbers(self) -> [i64; 2] {
+        [self.latitude, i64::from(self.longitude)]
     }
 }
 
@@ -37,6 +36,13 @@ impl Grid {
         u64::from(self.ni) * u64::from(self.nj)
     }
 
+    /// Behind Ni and Nj stands the point count.
+    fn numbers(&self) -> Vec<i64> {
+        let sizes = [i64::from(self.earth_code), i64::from(self.radius), i64::from(self.ni), i64::from(self.nj), self.points() as i64];
+        let steps = [self.di, self.dj].map(i64::from);
+        [&sizes[..], &self.first.numbers(), &self.last.numbers(), &steps].concat()
+    }
+
     /// The latitude and longitude of a point below the point count.
     pub fn place(&self, n: u64) -> (i64, u32) {
         let (column, row) = (n % u64::from(self.ni), n / u64::from(self.ni));
@@ -53,6 +59,11 @@ pub struct Level {
     pub scaled_level: u32,
 }
 
+/// That there is a level (1) or none (0), its factor, and the scaled level.
+fn level_numbers(level: Option<Level>) -> [i64; 3] {
+    level.map_or([0, 0, 0], |Level { factor, scaled_level }| [1, factor, i64::from(scaled_level)])
+}
+
 #[derive(Clone, Copy, PartialEq, Eq, Debug)]
 pub enum IntervalKind {
     Mean,
@@ -66,15 +77,16 @@ pub enum Product {
 }
 
 impl Product {
-    fn numbers(self) -> [u64; 8] {
+    /// The template's number, the end of the interval and its kind.
+    fn numbers(self) -> Vec<i64> {
         match self {
-            Product::Instant => [0; 8],
+            Product::Instant => vec![0; 8],
             Product::Interval { end, kind } => {
                 let kind_number = match kind {
                     IntervalKind::Mean => 0,
                     IntervalKind::Sum => 1,
                 };
-                [8, end.year, end.month, end.day, end.hour, end.minute, end.second, kind_number]
+                [&[8], &time_numbers(end)[..], &[kind_number]].concat()
             }
         }
     }
@@ -154,39 +166,25 @@ impl Description {
         }
     }
 
-    /// The whole description as 56 numbers; a signed number is told as its sign (1 when negative) and its size.
-    pub fn numbers(&self) -> Vec<u64> {
-        let grid = &self.grid;
-        let mut numbers = vec![u64::from(self.discipline), u64::from(self.status)];
-        numbers.extend(self.reference_time.numbers());
-        numbers.extend([u64::from(grid.earth_code), u64::from(grid.radius), u64::from(grid.ni), u64::from(grid.nj)]);
-        numbers.extend(grid.first.numbers());
-        numbers.extend(grid.last.numbers());
-        numbers.extend([u64::from(grid.di), u64::from(grid.dj)]);
-        numbers.extend([self.category, self.parameter, self.process_kind, self.first_surface_type].map(u64::from));
-        numbers.extend(self.level_numbers());
+    /// The whole description as the 53 numbers that C is given.
+    pub fn numbers(&self) -> Vec<i64> {
+        let mut numbers = vec![i64::from(self.discipline), i64::from(self.status)];
+        numbers.extend(time_numbers(self.reference_time));
+        numbers.extend(self.grid.numbers());
+        numbers.extend([self.category, self.parameter, self.process_kind, self.first_surface_type].map(i64::from));
+        numbers.extend(level_numbers(self.level));
         numbers.extend(self.product.numbers());
-        numbers.extend(self.valid_time.numbers());
-        numbers.extend([u64::from(self.n), u64::from(self.r)]);
-        numbers.extend(sign_and_size(self.e));
-        numbers.extend(sign_and_size(self.d));
-        numbers.extend([u64::from(self.bits), u64::from(self.data_template), u64::from(self.bitmap_indicator)]);
+        numbers.extend(time_numbers(self.valid_time));
+        numbers.extend([i64::from(self.n), i64::from(self.r), self.e, self.d]);
+        numbers.extend([i64::from(self.bits), i64::from(self.data_template), i64::from(self.bitmap_indicator)]);
         let starts = &self.starts;
-        let places = [starts.section_1, starts.section_3, starts.section_4, starts.section_5, starts.section_6, starts.section_7];
-        numbers.extend(places.map(u64::from));
+        numbers.extend([starts.section_1, starts.section_3, starts.section_4, starts.section_5, starts.section_6, starts.section_7].map(i64::from));
         numbers
     }
+}
 
-    /// Sign and size of the factor, then the scaled level; without a level, the octets all ones as they stand.
-    fn level_numbers(&self) -> [u64; 3] {
-        match self.level {
-            None => [0, 255, 0xFFFF_FFFF],
-            Some(level) => {
-                let [sign, size] = sign_and_size(level.factor);
-                [sign, size, u64::from(level.scaled_level)]
-            }
-        }
-    }
+fn time_numbers(time: Time) -> [i64; 6] {
+    time.numbers().map(|number| number as i64)
 }
 
 fn starts(field: &Field<'_>) -> SectionStarts {
@@ -198,8 +196,4 @@ fn starts(field: &Field<'_>) -> SectionStarts {
         section_6: field.sections[6].start,
         section_7: field.sections[7].start,
     }
-}
-
-fn sign_and_size(number: i64) -> [u64; 2] {
-    [u64::from(number < 0), number.unsigned_abs()]
 }

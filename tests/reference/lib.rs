@@ -107,6 +107,26 @@ pub fn place(file: &[u8], k: u64, n: u64) -> Result<(i64, u32), Refusal> {
     Ok(grid.place(n))
 }
 
+/// Puts the numbers of a description at the start of a run, and answers how many they are.
+pub fn describe_into(file: &[u8], k: u64, numbers: &mut [i64]) -> Result<u64, Refusal> {
+    put_numbers(&describe(file, k)?.numbers(), numbers)
+}
+
+/// Puts the latitude and the longitude of a point at the start of a run, and answers how many numbers these are.
+pub fn place_into(file: &[u8], k: u64, n: u64, position: &mut [i64]) -> Result<u64, Refusal> {
+    let (latitude, longitude) = place(file, k, n)?;
+    put_numbers(&[latitude, i64::from(longitude)], position)
+}
+
+/// Puts numbers at the start of a run, unless it has no room for all of them. What lies behind them stays.
+fn put_numbers(numbers: &[i64], run: &mut [i64]) -> Result<u64, Refusal> {
+    if run.len() < numbers.len() {
+        return Err(Refusal::without_place(15));
+    }
+    run[..numbers.len()].copy_from_slice(numbers);
+    Ok(numbers.len() as u64)
+}
+
 /// Gives every X of field k, over its present points in scan order.
 pub fn integers(file: &[u8], k: u64) -> Result<Vec<u32>, Refusal> {
     open_in_file(file, k)?.packing.integers()

@@ -71,9 +71,9 @@ fn describe(file: &[u8], k: u64) -> String {
     }
 }
 
-/// The description in words, then its 56 numbers on one line.
+/// The description in words, then its 53 numbers on one line.
 fn described(description: &Description) -> String {
-    let numbers: Vec<String> = description.numbers().iter().map(u64::to_string).collect();
+    let numbers: Vec<String> = description.numbers().iter().map(i64::to_string).collect();
     format!("{:#?}\nnumbers {}\n", description, numbers.join(" "))
 }
 

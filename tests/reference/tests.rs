@@ -273,7 +273,7 @@ impl OneField {
         describe(&self.file(), 0).is_ok()
     }
 
-    /// Asserts that describe, decode, place, presence and integers all refuse by this number, at that section.
+    /// Asserts that describe, decode, place, presence and integers all refuse by this number, at that section, also where a run has no room.
     fn refused_by(&self, number: u32, section: usize, what: &str) {
         let file = self.file();
         let refusal = Refusal { number, place: self.start(section) };
@@ -281,6 +281,8 @@ impl OneField {
         assert_eq!(describe(&file, 0), Err(refusal), "{}", what);
         assert_eq!(decode(&file, 0, 0, &mut [], &mut []), Err(refusal), "{}", what);
         assert_eq!(place(&file, 0, u64::MAX), Err(refusal), "{}", what);
+        assert_eq!(describe_into(&file, 0, &mut []), Err(refusal), "{}", what);
+        assert_eq!(place_into(&file, 0, u64::MAX, &mut []), Err(refusal), "{}", what);
         assert_eq!(presence(&file, 0), Err(refusal), "{}", what);
         assert_eq!(integers(&file, 0), Err(refusal), "{}", what);
     }
@@ -443,9 +445,9 @@ fn listing_of_refused_fields_and_inputs() {
 }
 
 /// What both fields of the sample say up to their grid, and what only one of them says after it.
-fn sample_numbers(rest: [u64; 36]) -> Vec<u64> {
-    let before: [u64; 8] = [0, 0, 2017, 5, 15, 12, 0, 0];
-    let grid = [6, 6_371_229, 2, 2, 0, 36_000_000, 135_000_000, 0, 35_950_000, 135_062_500, 62_500, 50_000];
+fn sample_numbers(rest: [i64; 34]) -> Vec<i64> {
+    let before = [0, 0, 2017, 5, 15, 12, 0, 0];
+    let grid = [6, 6_371_229, 2, 2, 4, 36_000_000, 135_000_000, 35_950_000, 135_062_500, 62_500, 50_000];
     [&before[..], &grid[..], &rest[..]].concat()
 }
 
@@ -453,16 +455,14 @@ fn sample_numbers(rest: [u64; 36]) -> Vec<u64> {
 fn description_of_the_sample() {
     let numbers = |k: u64| describe(&sample(), k).map(|description| description.numbers());
     let first = [
-        [0, 0, 2, 103, 0, 0, 10, 0, 0, 0, 0, 0],
-        [0, 0, 0, 2017, 5, 15, 13, 0, 0, 2, 0, 0],
-        [0, 0, 0, 12, 0, 0, 16, 37, 109, 143, 164, 171],
+        [0, 0, 2, 103, 1, 0, 10, 0, 0, 0, 0, 0, 0, 0, 0, 2017, 5],
+        [15, 13, 0, 0, 2, 0, 0, 0, 12, 0, 0, 16, 37, 109, 143, 164, 171],
     ];
     let second = [
-        [1, 8, 2, 1, 0, 255, 4_294_967_295, 8, 2017, 5, 15, 13],
-        [0, 0, 1, 2017, 5, 15, 12, 0, 0, 2, 0, 0],
-        [0, 0, 0, 12, 0, 254, 16, 37, 179, 237, 258, 264],
+        [1, 8, 2, 1, 0, 0, 0, 8, 2017, 5, 15, 13, 0, 0, 1, 2017, 5],
+        [15, 12, 0, 0, 2, 0, 0, 0, 12, 0, 254, 16, 37, 179, 237, 258, 264],
     ];
-    let in_one_run = |rows: [[u64; 12]; 3]| std::array::from_fn(|index| rows[index / 12][index % 12]);
+    let in_one_run = |rows: [[i64; 17]; 2]| std::array::from_fn(|index| rows[index / 17][index % 17]);
     assert_eq!(numbers(0), Ok(sample_numbers(in_one_run(first))));
     assert_eq!(numbers(1), Ok(sample_numbers(in_one_run(second))));
     assert_eq!(numbers(2), Err(refused(8, 0)));
@@ -477,13 +477,13 @@ fn description_tells_each_octet_in_its_own_number() {
     let field = timed.altered(4, 10, &[21, 22, 23]).altered(4, 18, &[0, 0, 0, 0, 61]).altered(4, 23, &[24, 25, 0, 0, 1, 4]);
     let packed = field.altered(5, 12, &[0x41, 0x42, 0x43, 0x44, 0, 26, 0, 17]);
     let numbers = describe(&message(27, &packed.sections), 0).map(|description| description.numbers()).unwrap_or_default();
-    assert_eq!(numbers.len(), 56);
+    assert_eq!(numbers.len(), 53);
     assert_eq!(numbers[..8], [27, 1, 2031, 10, 9, 8, 7, 6]);
-    assert_eq!(numbers[8..20], [1, 258, 5, 1, 0, 20_000_000, 30_000_000, 0, 20_000_000, 30_001_600, 400, 500]);
-    assert_eq!(numbers[20..27], [21, 22, 23, 24, 0, 25, 260]);
-    assert_eq!(numbers[27..41], [0, 0, 0, 0, 0, 0, 0, 0, 2031, 10, 9, 9, 8, 6]);
-    assert_eq!(numbers[41..50], [5, 0x4142_4344, 0, 26, 0, 17, 4, 3, 255]);
-    assert_eq!(numbers[50..], [16, 37, 109, 143, 192, 198]);
+    assert_eq!(numbers[8..19], [1, 258, 5, 1, 5, 20_000_000, 30_000_000, 20_000_000, 30_001_600, 400, 500]);
+    assert_eq!(numbers[19..26], [21, 22, 23, 24, 1, 25, 260]);
+    assert_eq!(numbers[26..40], [0, 0, 0, 0, 0, 0, 0, 0, 2031, 10, 9, 9, 8, 6]);
+    assert_eq!(numbers[40..47], [5, 0x4142_4344, 26, 17, 4, 3, 255]);
+    assert_eq!(numbers[47..], [16, 37, 109, 143, 192, 198]);
 }
 
 #[test]
@@ -491,16 +491,61 @@ fn description_of_signs() {
     let south = OneField::on_grid(stated_grid(2, 2, (-36_000_000, 0), 5, 7)).altered(4, 24, &[0x82]);
     let field = south.altered(5, 12, &(-1.5f32).to_bits().to_be_bytes()).altered(5, 16, &signed_pair(-3)).altered(5, 18, &signed_pair(-4));
     let numbers = describe(&field.file(), 0).map(|description| description.numbers()).unwrap_or_default();
-    assert_eq!(numbers.len(), 56);
-    assert_eq!(numbers[12..18], [1, 36_000_000, 0, 1, 36_000_007, 5]);
-    assert_eq!(numbers[24..27], [1, 2, 10]);
-    assert_eq!(numbers[42..47], [0xBFC0_0000, 1, 3, 1, 4]);
+    assert_eq!(numbers.len(), 53);
+    assert_eq!(numbers[13..17], [-36_000_000, 0, -36_000_007, 5]);
+    assert_eq!(numbers[23..26], [1, -2, 10]);
+    assert_eq!(numbers[41..44], [0xBFC0_0000, -3, -4]);
     let minus_zero = OneField::on_grid(flat_grid(2, 2)).altered(3, 47, &[0x80, 0, 0, 0]).altered(3, 56, &[0x80, 0, 0, 0]).altered(4, 24, &[0x80]);
     let field = minus_zero.altered(5, 16, &[0x80, 0, 0x80, 0]);
     let numbers = describe(&field.file(), 0).map(|description| description.numbers()).unwrap_or_default();
-    assert_eq!(numbers[12..18], [0; 6]);
-    assert_eq!(numbers[24..27], [0, 0, 10]);
-    assert_eq!(numbers[42..47], [0; 5]);
+    assert_eq!(numbers[13..17], [0; 4]);
+    assert_eq!(numbers[23..26], [1, 0, 10]);
+    assert_eq!(numbers[41..44], [0; 3]);
+}
+
+#[test]
+fn description_counts_points_and_not_values() {
+    let numbers = describe(&sample(), 0).map(|description| description.numbers()).unwrap_or_default();
+    assert_eq!((numbers[10], numbers[11], numbers[12], numbers[40]), (2, 2, 4, 2));
+    let wide = describe(&OneField::on_grid(flat_grid(4096, 4096)).file(), 0).map(|description| description.numbers()).unwrap_or_default();
+    assert_eq!(wide[10..13], [4096, 4096, 16_777_216]);
+}
+
+/// What a run of so many elements holds before a call in these tests.
+fn untouched(length: usize) -> Vec<i64> {
+    vec![-77; length]
+}
+
+#[test]
+fn describe_fills_the_start_of_its_run_only() {
+    for (k, told) in (0..).zip([describe(&sample(), 0), describe(&sample(), 1)]) {
+        let told = told.map(|description| description.numbers()).unwrap_or_default();
+        for length in 0..=60 {
+            let mut run = untouched(length);
+            let answer = describe_into(&sample(), k, &mut run);
+            if length < 53 {
+                assert_eq!((answer, run), (Err(refused(15, 0)), untouched(length)));
+            } else {
+                assert_eq!((answer, run), (Ok(53), [&told[..], &untouched(length - 53)].concat()));
+            }
+        }
+    }
+}
+
+#[test]
+fn place_fills_the_start_of_its_run_only() {
+    let file = OneField::on_grid(stated_grid(3, 2, (-36_000_000, 7), 5, 9)).file();
+    for length in 0..=5 {
+        let mut run = untouched(length);
+        let answer = place_into(&file, 0, 4, &mut run);
+        if length < 2 {
+            assert_eq!((answer, run), (Err(refused(15, 0)), untouched(length)));
+        } else {
+            assert_eq!((answer, run), (Ok(2), [&[-36_000_009, 12], &untouched(length - 2)[..]].concat()));
+        }
+        let mut run = untouched(length);
+        assert_eq!((place_into(&file, 0, 6, &mut run), run), (Err(refused(17, 0)), untouched(length)));
+    }
 }
 
 #[test]
@@ -1118,5 +1163,7 @@ fn every_shortened_file_is_refused() {
     let file = sample();
     for length in 1..file.len() {
         assert_eq!(check(&file[..length]), Err(refused(3, 0)), "{} octets", length);
+        assert_eq!(describe_into(&file[..length], 0, &mut [0; 52]), Err(refused(3, 0)), "{} octets", length);
+        assert_eq!(place_into(&file[..length], 0, 9, &mut [0]), Err(refused(3, 0)), "{} octets", length);
     }
 }
