@@ -36,8 +36,8 @@ WRONGLY = ('Damaged, or written wrongly: ', 'Fetch the file again. If it is refu
 VERDICTS = {
     **dict.fromkeys((3, 5, 7), DAMAGED), **dict.fromkeys((4, 6, 9, 10, 11, 12, 13), EITHER), **dict.fromkeys((14, 16), WRONGLY),
     1: ('The file is longer than ', 'Cut it between two messages, and ask about each part.'), 2: ('The file is empty', 'Fetch it again.'),
-    8: ('The file has no field', 'skeptolyr_check tells how many there are.'), 15: ('The field has more points', 'Pass longer arrays: 16,777,216 elements have room for any field.'),
-    17: ('The field has no point', 'ask for one below the number of points.'), 18: ('The input is longer', 'skeptolyr-draw and the functions for C read longer files.'),
+    8: ('The file has no field', 'skeptolyr_check tells how many there are.'), 15: ('An array that was passed has no room', 'tells how many points there are, and needs 53 numbers itself.'),
+    17: ('The field has no point', 'ask for one below the number of points.'), 18: ('The input is longer', 'The command skeptolyr and the functions for C read longer files.'),
     19: ('No value can be rebuilt', 'Give numbers within them.')}
 
 # Answers as the rules give them, and what each function of the header is to make of them.
@@ -88,7 +88,7 @@ def answers_are_right(folder, *language):
     sentences, numbers = lines[:21], lines[21:]
     faults = ['%s of %x: %s' % (function, answer, got) for (function, answer, want), got in zip(ANSWERS, numbers) if got != str(want)]
     faults += ['sentence %d: %s' % (number, sentences[number]) for number, word in WORDS.items() if word not in sentences[number] or not re.fullmatch(r'[A-Z].*\.', sentences[number])]
-    known = set(re.findall(r'\bskeptolyr_\w+(?=\()', text_of(HEADER))) | {'skeptolyr-draw', 'skeptolyr-listing'}
+    known = set(re.findall(r'\bskeptolyr_\w+(?=\()', text_of(HEADER))) | {'skeptolyr-listing'}
     faults += ['text %d names %s' % (number, name) for number, text in enumerate(sentences) for name in re.findall(r'\bskeptolyr[-_]\w+', text) if name not in known]
     faults += ['text %d does not say so: %s .. %s' % (number, *verdict) for number, verdict in VERDICTS.items() if not (sentences[number].startswith(verdict[0]) and sentences[number].endswith(verdict[1]))]
     faults += ['sentences of 0 and 20: %s' % sentences[0]] * (sentences[0] != 'No refusal has this number.' or sentences[20] != sentences[0])
@@ -109,33 +109,44 @@ CALLER = r'''
 enum { ROOM = 300 };
 static uint8_t file[ROOM], presence[ROOM];
 static double values[ROOM];
+static int64_t numbers[ROOM], position[ROOM];
 
 int main(int argc, char **argv)
 {
     const uint64_t nan = UINT64_C(0xfff0123456789abc);
-    size_t given[5], file_len, k, start, values_len, presence_len;
-    for (int i = 0; i < 5; i++)
+    size_t given[8], file_len, k, start, values_len, presence_len, n, numbers_len, position_len;
+    for (int i = 0; i < 8; i++)
         given[i] = i + 1 < argc ? strtoul(argv[i + 1], NULL, 10) : 0;
     file_len = given[0], k = given[1], start = given[2], values_len = given[3], presence_len = given[4];
+    n = given[5], numbers_len = given[6], position_len = given[7];
     if (fread(file, 1, ROOM, stdin) == 0)
         return 2;
     for (int i = 0; i < ROOM; i++) {
         memcpy(values + i, &nan, sizeof nan);
         presence[i] = 0xa5;
+        numbers[i] = position[i] = -77;
     }
     printf("%016" PRIx64 "\n", skeptolyr_check(CHECKED));
     printf("%016" PRIx64 "\n", skeptolyr_decode(DECODED));
+    printf("%016" PRIx64 "\n", skeptolyr_describe(DESCRIBED));
+    printf("%016" PRIx64 "\n", skeptolyr_place(PLACED));
     for (int i = 0; i < ROOM; i++) {
         uint64_t bits;
         memcpy(&bits, values + i, sizeof bits);
-        printf("%016" PRIx64 " %02x\n", bits, presence[i]);
+        printf("%016" PRIx64 " %02x %" PRId64 " %" PRId64 "\n", bits, presence[i], numbers[i], position[i]);
     }
     return 0;
 }
 '''
 ROOM = 300
 # No two are equal, and a call in which two of them have changed places has another outcome.
-GIVEN = {'file_len': 276, 'k': 1, 'start': 2, 'values_len': 9, 'presence_len': 7}
+GIVEN = {'file_len': 276, 'k': 1, 'start': 2, 'values_len': 9, 'presence_len': 7, 'n': 3, 'numbers_len': 60, 'position_len': 5}
+FUNCTIONS = {'CHECKED': 'skeptolyr_check', 'DECODED': 'skeptolyr_decode', 'DESCRIBED': 'skeptolyr_describe', 'PLACED': 'skeptolyr_place'}
+# The second field of the rules' file, in the numbers of RULES, "A description", and its last point.
+DESCRIPTION = [
+    0, 0, 2017, 5, 15, 12, 0, 0, 6, 6371229, 2, 2, 4, 36000000, 135000000, 35000000, 136000000, 1000000, 1000000, 1, 8, 2, 1, 0, 0, 0,
+    8, 2017, 5, 15, 13, 0, 0, 1, 2017, 5, 15, 12, 0, 0, 2, 0, 0, 1, 12, 0, 254, 16, 37, 179, 237, 258, 264]
+POSITION = [35000000, 136000000]
 
 
 def parameters(function):
@@ -144,10 +155,10 @@ def parameters(function):
 
 
 def caller(folder):
-    """The command that calls check and decode with each argument where the header has the parameter of its name."""
+    """The command that calls each function with each argument where the header has the parameter of its name."""
     source = os.path.join(folder, 'caller.c')
     with open(source, 'w', encoding='ascii') as text:
-        text.write(CALLER.replace('CHECKED', ', '.join(parameters('skeptolyr_check'))).replace('DECODED', ', '.join(parameters('skeptolyr_decode'))))
+        text.write(re.sub('|'.join(FUNCTIONS), lambda word: ', '.join(parameters(FUNCTIONS[word.group()])), CALLER))
     return archive.program('skeptolyr', source)
 
 
@@ -157,11 +168,13 @@ def called(command, sample, numbers):
 
 
 def wanted(sample, file_len, k, start, values_len, presence_len):
-    """What the caller is to print, by the independent reading: two answers, and every element, those outside the field as they were."""
+    """What the caller is to print, by the independent reading: four answers, and every element, those outside the field as they were."""
     points, present, _, doubles = reading.decode(sample[:file_len], k, start, values_len, presence_len)
     elements = [(0xfff0123456789abc, 0xa5)] * ROOM
     elements[start:start + points] = [(*struct.unpack('>Q', struct.pack('>d', double)), int(bit)) for double, bit in zip(doubles, present)]
-    return ['%016x' % (1 << 32 | 2), '%016x' % points] + ['%016x %02x' % element for element in elements]
+    numbers, position = (told + [-77] * (ROOM - len(told)) for told in (DESCRIPTION, POSITION))
+    answers = ['%016x' % answer for answer in (1 << 32 | 2, points, len(DESCRIPTION), len(POSITION))]
+    return answers + ['%016x %02x %d %d' % (*element, *told) for element, *told in zip(elements, numbers, position)]
 
 
 def parameters_are_in_order(folder):
@@ -170,17 +183,52 @@ def parameters_are_in_order(folder):
     with open(os.path.join(TOP, 'samples', 'two-fields.grib2'), 'rb') as file:
         sample = file.read()
     command, numbers = caller(folder), list(GIVEN.values())
-    told, said = wanted(sample, *numbers), called(command, sample, numbers)
+    told, said = wanted(sample, *numbers[:5]), called(command, sample, numbers)
     faults = ['line %d: expected %s, got %s' % (number, *pair) for number, pair in enumerate(zip(told, said), 1) if pair[0] != pair[1]][:5]
     for one, other in itertools.combinations(range(len(numbers)), 2):
         swapped = numbers[:]
         swapped[one], swapped[other] = numbers[other], numbers[one]
         if {one, other} != {3, 4} and called(command, sample, swapped) == told:
             faults.append('%s and %s can change places' % (list(GIVEN)[one], list(GIVEN)[other]))
-    for function in ('skeptolyr_check', 'skeptolyr_decode'):
+    for function in FUNCTIONS.values():
         names = parameters(function) + ['']
-        faults += ['%s: %s is followed by %s' % (function, name, after) for name, after in zip(names, names[1:]) if name in ('file', 'values', 'presence') and after != name + '_len']
+        faults += ['%s: %s is followed by %s' % (function, name, after) for name, after in zip(names, names[1:]) if name + '_len' in GIVEN and after != name + '_len']
     return judged("the order of parameters, and every bit of a NaN outside the field", faults)
+
+
+# ---- the names of the numbers
+
+TIME = ['year', 'month', 'day', 'hour', 'minute', 'second']
+# RULES, "A description": each number in its order, by the name that the header has for it.
+NAMES = [
+    'discipline', 'status', *('reference.' + part for part in TIME), 'earth', 'radius', 'ni', 'nj', 'points', 'first.latitude', 'first.longitude', 'last.latitude',
+    'last.longitude', 'di', 'dj', 'category', 'parameter', 'process', 'surface', 'level.is_given', 'level.factor', 'level.scaled', 'product_template',
+    *('end.' + part for part in TIME), 'kind', *('valid.' + part for part in TIME), 'present', 'r', 'e', 'd', 'bits', 'data_template', 'indicator',
+    *('starts.section_%d' % number for number in (1, 3, 4, 5, 6, 7))]
+
+
+def members(struct_name):
+    """The members of a struct of the header and of those within it, in order."""
+    body = re.search(r'^struct %s \{\n(.*?)^\};' % struct_name, text_of(HEADER), re.M | re.S).group(1)
+    for kind, names in re.findall(r'^ +(int64_t|struct \w+) ([\w, ]+);', body, re.M):
+        for name in names.split(', '):
+            yield from [name] if kind == 'int64_t' else (name + '.' + part for part in members(kind.split()[1]))
+
+
+def names_are_right(folder):
+    """The members of a description are its numbers in their order, with nothing between them, and the two functions that give numbers by name do so."""
+    source = os.path.join(folder, 'names.c')
+    faults = [] if list(members('skeptolyr_field')) == NAMES else ['skeptolyr_field: %s' % list(members('skeptolyr_field'))]
+    lines = ['printf("%%" PRId64 "\\n", field.%s);' % name for name in NAMES] + ['printf("%%" PRId64 "\\n", position.%s);' % name for name in ('latitude', 'longitude')]
+    with open(source, 'w', encoding='ascii') as text:
+        text.write('#include <skeptolyr.h>\n#include <inttypes.h>\n#include <stdio.h>\nint main(void)\n{\n    static uint8_t file[300];\n')
+        text.write('    struct skeptolyr_field field;\n    struct skeptolyr_position position;\n    size_t length = fread(file, 1, 300, stdin);\n')
+        text.write('    if (skeptolyr_describe_field(file, length, 1, &field) != SKEPTOLYR_DESCRIPTION)\n        return 1;\n')
+        text.write('    if (skeptolyr_place_point(file, length, 1, 3, &position) != SKEPTOLYR_POSITION)\n        return 2;\n    %s\n    return 0;\n}\n' % '\n    '.join(lines))
+    with open(os.path.join(TOP, 'samples', 'two-fields.grib2'), 'rb') as sample:
+        said = subprocess.run(archive.program('skeptolyr', source), stdin=sample, stdout=subprocess.PIPE, text=True)
+    faults += ['status %d: %s' % (said.returncode, said.stdout)] * (said.stdout.split() != [str(number) for number in DESCRIPTION + POSITION])
+    return judged('the names of the numbers', faults)
 
 
 # ---- null pointers, and memory that was never written
@@ -189,7 +237,7 @@ def null_is_taken():
     """A null pointer whose length is 0 is an empty file, refused by 2, or a run without room, refused by 15, and nothing is written elsewhere."""
     with open(os.path.join(TOP, 'samples', 'two-fields.grib2'), 'rb') as sample:
         said = subprocess.run(archive.program('skeptolyr', 'tests/help/null.c'), stdin=sample, stdout=subprocess.PIPE, text=True)
-    wanted = ''.join('%016x 0\n' % (1 << 63 | number << 32) for number in (2, 2, 2, 15, 15, 15, 15))
+    wanted = ''.join('%016x 0\n' % (1 << 63 | number << 32) for number in (2, 2, 2, 15, 15, 15, 15, 2, 15, 2, 15))
     return judged('a null pointer with length 0', [] if (said.returncode, said.stdout) == (0, wanted) else ['status %d' % said.returncode, said.stdout])
 
 
@@ -197,23 +245,29 @@ def nothing_is_assumed():
     """The compiler is told nothing of the pointers that C hands over: not that they are not null, nor that there is memory behind them."""
     text = text_of(module.text('skeptolyr'))
     heads = re.findall(r'^define [^@]*@skeptolyr_\w+\(.*$', text, re.M)
-    faults = ['%d functions for C' % len(heads)] * (len(heads) != 2)
+    faults = ['%d functions for C' % len(heads)] * (len(heads) != len(FUNCTIONS))
     return judged('what the compiler is told of pointers', faults + re.findall(r'.*\b(?:nonnull|dereferenceable|noalias)\b.*', text))
 
 
 def arrays_are_only_written(folder):
-    """The optimiser finds that decode reads no element of either array, and keeps neither pointer, so that memory which was never written may be passed."""
+    """The optimiser finds that no function reads an element of the arrays that it fills, or keeps their pointers, so that memory which was never written may
+    be passed. Describe hands its pointer on in memory, which counts as keeping it, so of describe the first alone is found."""
     found = os.path.join(folder, 'optimised.ll')
     module.run(module.tool('clang'), '--target=x86_64-unknown-linux-gnu', '-O3', '-S', '-emit-llvm', '-Wno-override-module', '-x', 'ir', module.text('skeptolyr'), '-o', found)
-    head = re.search(r'^define [^@]*@skeptolyr_decode\((.*)\) ', text_of(found), re.M).group(1)
-    arrays = [parameter for parameter, name in zip(re.split(r', (?=ptr|i64)', head), parameters('skeptolyr_decode')) if name in ('values', 'presence')]
-    return judged('arrays that are only written', [head] * (len(arrays) != 2 or not all(re.search(r'\bwriteonly\b.*\b(captures\(none\)|nocapture\b)', words) for words in arrays)))
+    faults, filled = [], 0
+    for function in FUNCTIONS.values():
+        head = re.search(r'^define [^@]*@%s\((.*)\) ' % function, text_of(found), re.M).group(1)
+        arrays = [parameter for parameter, name in zip(re.split(r', (?=ptr|i64)', head), parameters(function)) if name in ('values', 'presence', 'numbers', 'position')]
+        filled += len(arrays)
+        found_of = r'\bwriteonly\b' if function == 'skeptolyr_describe' else r'\bwriteonly\b.*\b(captures\(none\)|nocapture\b)'
+        faults += [head] * (not all(re.search(found_of, words) for words in arrays))
+    return judged('arrays that are only written', faults + ['%d arrays' % filled] * (filled != 4))
 
 
 def main():
     results = [table_is_right(), definition_is_the_same(), null_is_taken(), nothing_is_assumed()]
     with tempfile.TemporaryDirectory() as folder:
-        results += [parameters_are_in_order(folder), arrays_are_only_written(folder)]
+        results += [parameters_are_in_order(folder), names_are_right(folder), arrays_are_only_written(folder)]
         results += [answers_are_right(folder, *language) for language in LANGUAGES]
     return ended(results)
 

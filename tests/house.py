@@ -239,6 +239,7 @@ STATEMENTS = {
     'no-impostor': ('theorems_demands/proofs/Impostors.antt', ['pub no-impostor : NoImpostor']),
     'examples': ('theorems_demands/proofs/Examples.antt', ['pub examples : Examples']),
     'calls': ('theorems_calls/proofs/Calls.antt', ['pub calls : Calls']),
+    'no-impostor-for-c': ('theorems_calls/proofs/Impostors.antt', ['pub no-impostor-for-c : NoImpostorForC']),
     'rattle-calls': ('theorems_calls/proofs/Calls.antt', ['pub rattle-calls : RattleCalls']),
     'section-limits': ('theorems_limits/proofs/Limits.antt', ['pub section-limits : SectionLimits']),
 }

@@ -1,17 +1,16 @@
 """The README shows what commands print, a picture, and which files are read. This runs the commands, draws the picture and makes such files, and compares.
 
   python3 -m tests.readme             compare, and end in 'N passed, M failed'
-  python3 -m tests.readme --picture   draw the picture anew, docs/islands.png, with its pixels compressed
+  python3 -m tests.readme --picture   draw the picture anew, docs/islands.png
 """
 import os
 import re
-import struct
 import subprocess
 import sys
 import tempfile
 import zlib
 
-from tests.drawing import chunks_of
+from tests import drawing
 from tests.help import grib, manual, reading, report
 from tools import TOP, archive
 
@@ -19,17 +18,6 @@ README = os.path.join(TOP, 'README.md')
 PICTURE = os.path.join(TOP, 'docs', 'islands.png')
 # Where the README installs. The test installs elsewhere, and reads this for it.
 PREFIX = '/tmp/skeptolyr'
-
-# On another processor than x86-64, `cc` is a cross compiler here, and what it makes is a script that calls the emulator.
-CROSS = '''#!/bin/sh
-python3 - "$@" <<'END'
-import os, subprocess, sys
-from tools import archive
-out = sys.argv[sys.argv.index('-o') + 1]
-subprocess.run([archive.compiler(), '-static', *[word + '.x86-64' if word == out else word for word in sys.argv[1:]]], check=True)
-archive.write_script(out, os.path.abspath(out + '.x86-64'))
-END
-'''
 
 
 def difference(shown, printed):
@@ -91,15 +79,9 @@ def commands_print(folder):
     script = ['exec 2>&1']
     for command in re.findall(r'^\$ (.*)$', ''.join(blocks), re.M):
         script += ["cat <<'END'\n$ %s\nEND" % command, command]
-    path = os.environ['PATH']
-    if not archive.NATIVE:
-        with open(os.path.join(folder, 'cc'), 'w', encoding='ascii') as shim:
-            shim.write(CROSS)
-        os.chmod(os.path.join(folder, 'cc'), 0o755)
-        path = folder + ':' + path
     prefix = os.path.join(folder, 'installed')
-    done = subprocess.run(['sh'], input='\n'.join(script).replace(PREFIX, prefix), cwd=TOP, stdout=subprocess.PIPE, text=True, env=dict(os.environ, PATH=path))
-    # Only there does the installation also say that its code is for x86-64.
+    done = subprocess.run(['sh'], input='\n'.join(script).replace(PREFIX, prefix), cwd=TOP, stdout=subprocess.PIPE, text=True)
+    # There the installation also says that its code is native.
     printed = done.stdout.replace(prefix, PREFIX) if archive.NATIVE else re.sub(r'^install: this machine is .*\n', '', done.stdout.replace(prefix, PREFIX), flags=re.M)
     faults = [] if blocks else ['there is no console block']
     return report.judged("the commands of the README's console block", faults + difference(''.join(blocks), printed))
@@ -108,24 +90,18 @@ def commands_print(folder):
 # ---- the picture
 
 def drawn(folder):
-    """The picture of the sample, as the program draw makes it."""
+    """The picture of the sample, as `skeptolyr draw` makes it."""
     path = os.path.join(folder, 'picture.png')
-    subprocess.run([*archive.program('skeptolyr', 'examples/draw.c'), os.path.join(TOP, 'samples', 'islands.grib2'), path], stdout=subprocess.DEVNULL, check=True)
+    subprocess.run([*archive.skeptolyr(), 'draw', os.path.join(TOP, 'samples', 'islands.grib2'), '0', path], stdout=subprocess.DEVNULL, check=True)
     with open(path, 'rb') as picture:
         return picture.read()
 
 
 def content(octets):
-    """What a PNG holds: its chunks but for the pixels, and these as they are before they are compressed."""
-    chunks = chunks_of(octets)
-    return [chunk for chunk in chunks if chunk[0] != b'IDAT'], zlib.decompress(b''.join(body for name, body in chunks if name == b'IDAT'))
-
-
-def compressed(octets):
-    """The same picture in fewer octets."""
-    others, pixels = content(octets)
-    chunks = others[:-1] + [(b'IDAT', zlib.compress(pixels, 9)), others[-1]]
-    return octets[:8] + b''.join(struct.pack('>I', len(body)) + name + body + struct.pack('>I', zlib.crc32(name + body)) for name, body in chunks)
+    """What a PNG holds: its chunks but for the pixels and for the version of the program that made it, and the pixels as they are before they are compressed."""
+    chunks = drawing.chunks_of(octets)
+    others = [chunk for chunk in chunks if chunk[0] != b'IDAT' and not chunk[1].startswith(b'Software\0')]
+    return others, zlib.decompress(b''.join(body for name, body in chunks if name == b'IDAT'))
 
 
 def picture_is_drawn(folder):
@@ -140,7 +116,7 @@ def main():
     with tempfile.TemporaryDirectory() as folder:
         if '--picture' in sys.argv:
             with open(PICTURE, 'wb') as picture:
-                picture.write(compressed(drawn(folder)))
+                picture.write(drawn(folder))
             return 0
         results = [opening_is_plain(), kinds_are_refused(folder), sample_is_shown(), commands_print(folder), picture_is_drawn(folder)]
     return report.ended(results)

@@ -1,5 +1,5 @@
-"""The samples, as people meet them: made as the script makes them, told of as they are, and drawn or refused by the example program draw with the
-number, the place and the sentence that belong there. It ends in 'N passed, M failed'.
+"""The samples, as people meet them: made as the script makes them, told of as they are, and drawn or refused by `skeptolyr draw` with the number, the place
+and the sentence that belong there. It ends in 'N passed, M failed'.
 """
 import os
 import re
@@ -46,7 +46,7 @@ def are_read_as_told():
     return report.judged('the samples in the independent reading', faults)
 
 
-# ---- the example programs
+# ---- the programs
 
 def run(*command):
     """What a program prints on both ways out, and its status."""
@@ -54,27 +54,34 @@ def run(*command):
     return done.returncode, done.stdout, done.stderr
 
 
-def is_refused(draw, refusal, folder):
-    """The program draw says the refusal's number, place and sentence on the way out for errors, ends with 1, and leaves no picture."""
+def is_refused(skeptolyr, refusal, folder):
+    """`skeptolyr draw` says the refusal's number, place and sentence on the way out for errors, ends with 1, and leaves no picture."""
     path, picture = os.path.join(SAMPLES, refusal.file), os.path.join(folder, 'picture.png')
     if refusal.number == 1:
         path = os.path.join(folder, refusal.file)
         with open(path, 'wb') as file:
             file.truncate(make.TOO_LONG)
-    words = ['-f', str(refusal.field)] + (['-r', str(refusal.room)] if refusal.room else [])
-    status, out, said = run(*draw, *words, path, picture)
-    wanted = 'draw: %s: %s' % (path, manual.refused(refusal.number, refusal.place))
+    status, out, said = run(*skeptolyr, 'draw', path, str(refusal.field), picture)
+    of_field = ', field %d' % refusal.field if refusal.number >= 8 else ''
+    wanted = 'skeptolyr: %s%s: %s' % (path, of_field, manual.refused(refusal.number, refusal.place))
     faults = ['it ended with %d' % status] * (status != 1) + ['it said: %s%s' % (out, said)] * (out != '' or said.split('\n')[0] != wanted) + ['it left a picture'] * os.path.exists(picture)
     return report.judged('refusal %d at %d, %s' % (refusal.number, refusal.place, refusal.what), faults)
 
 
-def are_drawn(draw, folder):
+def are_drawn(skeptolyr, folder):
     """The samples that are not refused are drawn, each field of them."""
     faults = []
     for name, field in (('two-fields.grib2', '0'), ('two-fields.grib2', '1'), ('islands.grib2', '0')):
-        status, _, said = run(*draw, '-f', field, os.path.join(SAMPLES, name), os.path.join(folder, name + field))
+        status, _, said = run(*skeptolyr, 'draw', os.path.join(SAMPLES, name), field, os.path.join(folder, name + field))
         faults += ['%s, field %s: %d %s' % (name, field, status, said)] * (status != 0 or said != '' or not os.path.exists(os.path.join(folder, name + field)))
     return report.judged('the samples that are drawn', faults)
+
+
+def sees_full_disk(numbers, path):
+    """Does the program numbers see that nothing can be printed?"""
+    with open('/dev/full', 'wb') as full:
+        done = subprocess.run([*numbers, path, '0'], stdout=full, stderr=subprocess.PIPE)
+    return done.returncode == 2 and b'could be printed' in done.stderr
 
 
 def are_printed():
@@ -85,16 +92,19 @@ def are_printed():
         ((two, '0'), (0, '0 291.2\n1 missing\n2 274.8\n3 missing\n', '')), ((two, '1'), (0, '0 0.5\n1 missing\n2 0.7\n3 missing\n', '')),
         ((two, '2'), (1, '', manual.refused(8, 0) + '\n')), ((os.path.join(SAMPLES, 'accident.grib2'), '0'), (1, '', manual.refused(7, 0) + '\n'))]
     faults = ['%s: %s' % (words[1], run(*numbers, *words)) for words, want in wanted if run(*numbers, *words) != want]
-    faults += ['%s: no usage' % (words,) for words in ((two,), (two, 'first'), ('no such file', '0'), (SAMPLES, '0')) if run(*numbers, *words)[:2] != (2, '')]
+    misused = [(two,), (two, '0', '0'), ('no such file', '0'), (SAMPLES, '0')] + [(two, word) for word in ('first', '', '-1', '+1', ' 1', '1x', '0x1', '9' * 30)]
+    faults += ['%s: no usage' % (words,) for words in misused if run(*numbers, *words)[:2] != (2, '')]
+    faults += [] if sees_full_disk(numbers, two) else ['a full disk is not seen']
     return report.judged('the program numbers', faults)
 
 
 def main():
-    draw = archive.program('skeptolyr', 'examples/draw.c')
+    skeptolyr = archive.skeptolyr()
     results = [are_as_made(), are_told_of(), are_read_as_told(), are_printed()]
     with tempfile.TemporaryDirectory() as folder:
-        results.append(are_drawn(draw, folder))
-        results += [is_refused(draw, refusal, folder) for refusal in make.REFUSALS]
+        results.append(are_drawn(skeptolyr, folder))
+        # The command always has room for a field, so that no refusal 15 is seen there.
+        results += [is_refused(skeptolyr, refusal, folder) for refusal in make.REFUSALS if not refusal.room]
     return report.ended(results)
 
 
