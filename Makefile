@@ -1,6 +1,6 @@
 # The targets for daily work. `tools/test` and `tools/sample` need no make.
 .DEFAULT_GOAL := help
-.PHONY: help sample test soak bench peers fuzz check lib examples picture man build install uninstall dist dev fmt house believed spec limits clean
+.PHONY: help sample test soak bench peers fuzz memory check lib examples picture man build install uninstall dist dev fmt house believed spec limits clean
 
 help: ## List the targets.
 	@awk -F ':.*## ' '/^[a-z]+:.*## / { printf "  make %-9s %s\n", $$1, $$2 }' $(MAKEFILE_LIST)
@@ -22,6 +22,9 @@ peers: ## Put damaged files to Skeptolyr and to other readers, and write docs/PE
 
 fuzz: ## Fuzz the proved code natively, for ten minutes or as many as are given: make fuzz MINUTES=60.
 	@python3 -m fuzz $(MINUTES)
+
+memory: ## Run the command under AddressSanitizer and valgrind on all samples and on damaged files.
+	@python3 -m tests.memory
 
 check: ## Prove what has changed, and run the programs.
 	rt check

@@ -1,12 +1,13 @@
 """python3 -m bench [ARCHIVE]: measures the proved code natively, in one thread, on files made for it. Times are printed, and decide no test.
 
-With an ARCHIVE, its skeptolyr_decode is measured, and nothing is proved: for code whose proof is still under way.
+With an ARCHIVE, its functions are measured, and nothing is proved: for code whose proof is still under way.
 """
 import os
 import statistics
 import subprocess
 import sys
 
+from bench import listing
 from samples import shapes
 from tests.help import grib
 from tools import TOP, debian
@@ -29,11 +30,11 @@ def say(what):
 
 # ---- programs
 
-def archive_of(crate):
-    """The crate's archive, for this machine."""
-    say('proving and compiling ' + crate)
-    archive = os.path.join(TOP, 'target', 'lib%s.native.a' % crate)
-    subprocess.run([sys.executable, '-m', 'tools.native', crate, archive], cwd=TOP, check=True)
+def native_archive():
+    """The archive, as code for this machine."""
+    say('proving and compiling skeptolyr')
+    archive = os.path.join(TOP, 'target', 'libskeptolyr.native.a')
+    subprocess.run([sys.executable, '-m', 'tools.native', 'skeptolyr', archive], cwd=TOP, check=True)
     return archive
 
 
@@ -121,12 +122,12 @@ def grow(decode, growing):
 
 
 def tell_memory(stack, archive, files):
-    """The stack that decode takes, and what the archive calls."""
+    """The stack that the functions take, and what the archive calls."""
     say('painting the stack')
     depths = {}
     for name, file in files.items():
         depths.setdefault(name.split(' x ')[0], []).append(int(answer([stack], file)[0]))
-    print('\nMemory of decode: octets of the stack that it changed, from the smallest file of a kind to the largest.')
+    print('\nMemory: the most octets of the stack that a function changed, from the smallest file of a kind to the largest.')
     table(*([name] + found for name, found in depths.items()))
     print('  ' + ('It does not grow with the file.' if all(len(set(found)) == 1 for found in depths.values()) else 'It is NOT the same for all files of a kind.'))
     lines = subprocess.run(['nm', archive], stdout=subprocess.PIPE, check=True).stdout.decode().split('\n')
@@ -136,7 +137,7 @@ def tell_memory(stack, archive, files):
 
 
 def main():
-    archive = sys.argv[1] if len(sys.argv) > 1 else archive_of('skeptolyr')
+    archive = sys.argv[1] if len(sys.argv) > 1 else native_archive()
     decode = program('decode', archive, os.path.join(TOP, 'bench', 'plain.c'), *peers())
     # A function of the C library that is looked up at its first call would show on the stack.
     stack = program('stack', archive, '-Wl,-z,now')
@@ -149,12 +150,11 @@ def main():
     grow(decode, growing)
     fixed = {name: file for name, file in files.items() if name not in GROWING}
     tell_memory(stack, archive, dict(fixed, **{name: file for name, file, _, _ in growing}))
-    if len(sys.argv) == 1:
-        describe = program('describe', archive_of('tests_tell'))
-        levels = shapes.pressure_levels()
-        print('\nDescribe, in a file of 92 fields.', flush=True)
-        for k in (0, 91):
-            subprocess.run([describe, str(k)], input=levels, check=True)
+    describe, levels = program('describe', archive), shapes.pressure_levels()
+    print('\nDescribe, in a file of 92 fields.', flush=True)
+    for k in (0, 91):
+        subprocess.run([describe, str(k)], input=levels, check=True)
+    listing.tell(archive)
 
 
 if __name__ == '__main__':

@@ -292,7 +292,7 @@ def named_by(name):
     """The files of tools/ that one of them names, or imports."""
     text = '\n'.join(lines_of(name))
     words = re.findall(r'\btools[./](\w+)', text) + [word for line in re.findall(r'^from tools import (.*)$', text, re.M) for word in line.split(', ')]
-    return {file for word in words for file in ('tools/' + word, 'tools/%s.py' % word) if os.path.exists(os.path.join(TOP, file))}
+    return {file for word in words for file in ('tools/' + word, 'tools/%s.py' % word) if os.path.isfile(os.path.join(TOP, file))}
 
 
 def nothing_reaches_into_tests():

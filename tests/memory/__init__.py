@@ -1,0 +1,1 @@
+"""The command under AddressSanitizer and valgrind: python3 -m tests.memory."""
