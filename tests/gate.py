@@ -221,6 +221,7 @@ def sample_is_interrupted(folder):
     for name in ('sample', 'archive.py', 'built.py', 'module.py'):
         shutil.copy(os.path.join(TOP, 'tools', name), os.path.join(folder, 'tools', name))
     tree.write('crates.txt', 'listing: skeptolyr\nskeptolyr:\n')
+    tree.write('command/main.c', '')
     run = tree.start('sample')
     deadline = time.monotonic() + 30
     while not os.path.exists(told) and run.poll() is None and time.monotonic() < deadline:
