@@ -516,6 +516,8 @@ def emulated(program, library):
 
 def packs_for_the_other_machine(scratch):
     """make dist MACHINE=.. packs the same for the other machine, and says so; under emulation its programs answer, and so does one linked with it."""
+    if OTHER == 'aarch64' and not (shutil.which('aarch64-linux-gnu-gcc') and shutil.which('qemu-aarch64')):
+        raise report.Skipped('what is packed for Arm', "Debian's cross compiler for Arm, or its emulator, could not be installed")
     path, said = packed(OTHER)
     if not path or 'what is made is code for ' + OTHER not in said:
         yield said
