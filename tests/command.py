@@ -21,7 +21,7 @@ import time
 
 from samples import make
 from tests import fields
-from tests.help import grib, manual, reading, report
+from tests.help import grib, manual, reading, report, terminal
 from tools import TOP, archive, debian
 
 SUBCOMMANDS = ('check', 'ls', 'show', 'values', 'dump', 'draw')
@@ -834,54 +834,34 @@ def is_interrupted(command):
 
 def on_a_terminal(command, *words, stdin=subprocess.DEVNULL, slowly=0.0):
     """The exit status, and what is sent to a terminal that is standard error, while standard output is read slowly."""
-    master, terminal = pty.openpty()
-    with command.start(*words, stdin=stdin, stderr=terminal) as run:
-        os.close(terminal)
+    master, other = pty.openpty()
+    with command.start(*words, stdin=stdin, stderr=other) as run:
+        os.close(other)
         time.sleep(slowly)
         run.stdout.read()
-        sent = b''
-        try:
-            while octets := os.read(master, 65536):
-                sent += octets
-        except OSError:
-            pass  # Linux answers so when the last writer has closed a terminal.
-    os.close(master)
-    return run.returncode, sent.decode()
-
-
-def screen(sent):
-    """The lines of a terminal that was sent this: a return goes back to the line's start, and what follows is written over what is there."""
-    lines = []
-    for sent_line in sent.replace('\r\n', '\n').split('\n'):
-        line = ''
-        for part in sent_line.split('\r'):
-            line = part + line[len(part):]
-        lines.append(line.rstrip())
-    return lines
+        sent = terminal.sent_to(master)
+    return run.returncode, sent
 
 
 def shows_progress(command):
     """On a terminal long work says how far it is, on one line that is cleared at the end; a refusal stands there alone."""
-    try:
-        for end in pty.openpty():
-            os.close(end)
-    except OSError as error:
-        raise report.Skipped('what is shown on a terminal', 'this machine has no pseudo terminals') from error
+    if not terminal.are_there():
+        raise report.Skipped('what is shown on a terminal', 'this machine has no pseudo terminals')
     command.put(large_field(), 'large')
     put_long_work(command)
     for words, pattern, slowly in ((('values', 'large', '0'), r'rows printed: (\d+)%', 0.5), (('ls', FILE), r'fields listed: (\d+)%', 0.0)):
         status, sent = on_a_terminal(command, *words, slowly=slowly)
         percents = [int(percent) for percent in re.findall(pattern, sent)]
-        if status or screen(sent) != [''] or len(percents) < 2 or percents != sorted(percents) or percents[-1] > 100:
-            yield '%s: it exits with %d, shows %s, and leaves %r' % (words, status, percents, screen(sent))
+        if status or terminal.screen(sent) != [''] or len(percents) < 2 or percents != sorted(percents) or percents[-1] > 100:
+            yield '%s: it exits with %d, shows %s, and leaves %r' % (words, status, percents, terminal.screen(sent))
     with subprocess.Popen(['cat', command.path(FILE)], stdout=subprocess.PIPE) as cat:
         status, sent = on_a_terminal(command, 'check', '-', stdin=cat.stdout)
-    if status or screen(sent) != [''] or not re.search(r'octets read: \d+', sent):
-        yield 'of a pipe it exits with %d, and the terminal has %r' % (status, screen(sent))
+    if status or terminal.screen(sent) != [''] or not re.search(r'octets read: \d+', sent):
+        yield 'of a pipe it exits with %d, and the terminal has %r' % (status, terminal.screen(sent))
     refused = command.run('values', 'large', '7')[2]
     status, sent = on_a_terminal(command, 'values', 'large', '7')
-    if status != 1 or screen(sent) != refused.split('\n') or not refused.startswith('skeptolyr: '):
-        yield 'a refusal is shown as %r' % screen(sent)
+    if status != 1 or terminal.screen(sent) != refused.split('\n') or not refused.startswith('skeptolyr: '):
+        yield 'a refusal is shown as %r' % terminal.screen(sent)
 
 
 # ---- command lines

@@ -21,7 +21,7 @@ import zlib
 
 from samples import make, shapes
 from tests import decoding
-from tests.help import SEED, grib, manual, reading, report
+from tests.help import SEED, grib, manual, reading, report, terminal
 from tools import TOP, archive
 
 MOST_OCTETS, MOST_POINTS = 268435456, 16777216
@@ -611,54 +611,26 @@ def small_pictures(draw):
 
 def on_a_terminal(draw, *words):
     """The exit status, what is sent to a terminal that is standard error, and standard output."""
-    master, terminal = pty.openpty()
-    with subprocess.Popen([*draw.program, *draw.before, *words], stdout=subprocess.PIPE, stderr=terminal, cwd=draw.folder) as run:
-        os.close(terminal)
-        sent = b''
-        try:
-            while octets := os.read(master, 65536):
-                sent += octets
-        except OSError:
-            pass  # Linux answers so when the last writer has closed a terminal.
-        said = run.stdout.read().decode()
-    os.close(master)
-    return run.returncode, sent.decode(), said
-
-
-def screen(sent):
-    """The lines of a terminal that was sent this: a return goes back to the line's start, and what follows is written over what is there."""
-    lines = []
-    for sent_line in sent.replace('\r\n', '\n').split('\n'):
-        line = ''
-        for part in sent_line.split('\r'):
-            line = part + line[len(part):]
-        lines.append(line.rstrip())
-    return lines
-
-
-def has_terminals():
-    """Can a pseudo terminal be had? A machine without a file system for them has none."""
-    try:
-        for end in pty.openpty():
-            os.close(end)
-    except OSError:
-        return False
-    return True
+    master, other = pty.openpty()
+    with subprocess.Popen([*draw.program, *draw.before, *words], stdout=subprocess.PIPE, stderr=other, cwd=draw.folder) as run:
+        os.close(other)
+        sent, said = terminal.sent_to(master), run.stdout.read().decode()
+    return run.returncode, sent, said
 
 
 def progress(draw):
     """On a terminal it shows what it is doing on one line, and clears it; a refusal stands there alone."""
-    if not has_terminals():
+    if not terminal.are_there():
         raise report.Skipped('what draw shows on a terminal', 'this machine has no pseudo terminals')
     draw.put(EXAMPLE)
     refused = draw.run(FILE, '2', PICTURE).stderr.decode()
     status, sent, _ = on_a_terminal(draw, FILE, '2', PICTURE)
-    if status != 1 or screen(sent) != refused.split('\n') or not refused:
-        yield 'a refusal is shown as %r' % screen(sent)
+    if status != 1 or terminal.screen(sent) != refused.split('\n') or not refused:
+        yield 'a refusal is shown as %r' % terminal.screen(sent)
     draw.put(message_of(one_field(700, 600, field_of_octets(700, 600)[0])))
     status, sent, said = on_a_terminal(draw, FILE, '0', PICTURE)
-    if status or screen(sent) != [''] or said.count('\n') != 3:
-        yield 'it exits with %d, and the screen is %r' % (status, screen(sent))
+    if status or terminal.screen(sent) != [''] or said.count('\n') != 3:
+        yield 'it exits with %d, and the screen is %r' % (status, terminal.screen(sent))
     if 'drawing the field: 0%' not in sent:
         yield 'it shows %r' % sent
 
