@@ -26,7 +26,7 @@ TRIED = os.path.join(SCRATCH, 'tried.json')
 TABLE = ['theorems_limits/Samples', 'theorems_limits/Judged', 'theorems_limits/Limits']
 # What RULES, "Sections in force", says of sections 1 and 3 to 7, and of times.
 DEFINITIONS = [
-    'calendar/Calendar', 'section_1/Identification', 'section_3_geometry/Geometry', 'section_3_geometry/Positions', 'section_3/Section3', 'section_4/Product',
+    'calendar/Calendar', 'section_1/Identification', 'section_3_geometry/Geometry', 'section_3_positions/Positions', 'section_3/Section3', 'section_4/Product',
     'section_5_groups/Groups', 'section_5/Representation', 'section_6/Presence', 'section_7_layout/Runs', 'section_7/Packing']
 # How many changes are tried in one check, and how many checks run at a time. A check that ends without a verdict is repeated with fewer.
 TOGETHER = 16

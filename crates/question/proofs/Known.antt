@@ -16,7 +16,7 @@ use Rattle.refusals.specs.declared.Why.the-variants as Why
 use Rattle.tiling_sections.specs.declared.Located.{Located}
 use Rattle.tiling_sections.specs.declared.Starts.{Starts}
 use Rattle.tiling_sections.specs.Laid.{Laid}
-use Rattle.section_3_geometry.specs.Positions.{pointsOf}
+use Rattle.section_3_geometry.specs.Geometry.{pointsOf}
 use Rattle.section_5_groups.specs.declared.Grouping.{Grouping}
 use Rattle.section_5_groups.proofs.Laws.{Grouped}
 use Rattle.section_5.specs.declared.Template.{Template}

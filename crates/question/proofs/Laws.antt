@@ -19,7 +19,7 @@ use Rattle.tiling.specs.declared.Found.{Found}
 use Rattle.tiling.specs.declared.Found.the-variants as Found
 use Rattle.tiling.specs.Tiling.{largest, InFile, tiled, refused, tilingOf, foundIn, find}
 use Rattle.tiling.proofs.Bounds.{tiled-sound, field-laid, refused-placed}
-use Rattle.section_3_geometry.specs.Positions.{Measured, pointsOf}
+use Rattle.section_3_geometry.specs.Geometry.{Measured, pointsOf}
 use Rattle.section_3.proofs.Laws.{grid-taken}
 use Rattle.question.specs.declared.Description.{Description}
 use Rattle.question.specs.declared.Described.{Described}

@@ -6,7 +6,7 @@ use mathlib.Core.List.{List}
 use lib.Dec.{leb, ltb}
 use lib.IntN.{ℤ}
 use Rattle.refusals.specs.declared.Why.the-variants as Why
-use Rattle.section_3_geometry.specs.Positions.{pointsOf}
+use Rattle.section_3_geometry.specs.Geometry.{pointsOf}
 use Rattle.values_integers.specs.Integers.{integerAt, areInRange}
 use Rattle.question.specs.declared.Description.{Description}
 use Rattle.question.specs.declared.Described.{Described}

@@ -4,7 +4,7 @@ ghost use mathlib.Core.Path.{_≡_};
 ghost use Prim.Native.Nat.{_≤_};
 ghost use Rattle.calendar.specs.Calendar.{Gregorian};
 ghost use Rattle.tiling_sections.specs.Laid.{Laid};
-ghost use Rattle.section_3_geometry.specs.Positions.{pointsOf};
+ghost use Rattle.section_3_geometry.specs.Geometry.{pointsOf};
 ghost use Rattle.section_7.specs.Packing.{LimitedBy};
 ghost use Rattle.question.specs.Describe.{represented, gridded, describedAt, describe};
 ghost use Rattle.question.specs.Judge.{Known, hasRoom, isDecodable, valuesAsked, pointAsked, numbersAsked, positionAsked, asked, judge};

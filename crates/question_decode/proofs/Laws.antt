@@ -12,7 +12,7 @@ use Rattle.laws_rows.proofs.Laws.{row-length, row-same, part-laid}
 use Rattle.octets.specs.declared.FilePlace.{FilePlace}
 use Rattle.section.specs.Sections.{Lies, octetsIn}
 use Rattle.tiling.specs.Tiling.{largest}
-use Rattle.section_3_geometry.specs.Positions.{pointsOf}
+use Rattle.section_3_geometry.specs.Geometry.{pointsOf}
 use Rattle.section_5.specs.declared.Template.the-variants as Template
 use Rattle.section_6.specs.declared.Marked.the-variants as Marked
 use Rattle.section_6.specs.declared.Presence as declaredPresence

@@ -12,7 +12,7 @@ use Rattle.refusals.specs.declared.Refusal.{Refusal}
 use Rattle.bits.specs.Bits.{bitAt}
 use Rattle.doubles.specs.declared.Packing.{Packing}
 use Rattle.doubles.specs.Doubles.{packingOf}
-use Rattle.section_3_geometry.specs.Positions.{pointsOf}
+use Rattle.section_3_geometry.specs.Geometry.{pointsOf}
 use Rattle.section_5.specs.declared.Representation.{Representation}
 use Rattle.section_6.specs.declared.Presence.{Presence}
 use Rattle.section_6.specs.declared.Presence.the-variants as Marks

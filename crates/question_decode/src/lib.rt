@@ -5,7 +5,7 @@ ghost use mathlib.Core.Bool.{true};
 ghost use lib.ListN.{length};
 ghost use Rattle.laws_rows.specs.Rows.{laid};
 ghost use Rattle.doubles.specs.Doubles.{Scaled};
-ghost use Rattle.section_3_geometry.specs.Positions.{pointsOf};
+ghost use Rattle.section_3_geometry.specs.Geometry.{pointsOf};
 ghost use Rattle.section_6.specs.declared.Presence.the-variants as Marks;
 ghost use Rattle.question.specs.Judge.{hasRoom};
 ghost use Rattle.question_decode.specs.Decoding.{Decodable, MarkedBy, markedAt, Stretch, packingBy, doublesOf, marksOf, answer, valuesLeft, presenceLeft};

@@ -7,8 +7,10 @@ use native.Mathlib.Omega.{arith}
 use lib.Dec.{eqb, leb}
 use Rattle.octets.proofs.Cases.{apart, split}
 use Rattle.section.specs.Sections.{octet, held, heldSigned}
-use Rattle.section_3_geometry.specs.Positions.{pointsOf, positionOf}
-use Rattle.section_3_geometry.proofs.Laws.{taken-last, taken-rows}
+use Rattle.section_3_geometry.specs.Geometry.{pointsOf}
+use Rattle.section_3_positions.specs.Positions.{positionOf}
+use Rattle.section_3_geometry.proofs.Laws.{taken-last}
+use Rattle.section_3_positions.proofs.Laws.{taken-rows}
 use Rattle.section_3.proofs.Laws.{grid-passes}
 use Rattle.section_4.specs.declared.Level as declaredLevel
 use Rattle.section_4.specs.declared.Level.the-variants as Level

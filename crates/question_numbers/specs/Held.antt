@@ -1,7 +1,7 @@
 -- Sizes within which the machine's numbers with a sign hold every number of a description.
 use Prim.Native.Nat.{ℕ, _≤_}
 use Rattle.section_3_geometry.specs.declared.Grid.{Grid}
-use Rattle.section_3_geometry.specs.Positions.{pointsOf}
+use Rattle.section_3_geometry.specs.Geometry.{pointsOf}
 use Rattle.section_4.specs.declared.Level.{Level}
 use Rattle.section_4.specs.declared.Level.the-variants as Level
 use Rattle.section_5.specs.declared.Representation.{Representation}

@@ -9,7 +9,7 @@ use Rattle.tiling_sections.specs.declared.Starts.{Starts}
 use Rattle.tiling_sections.specs.Walk.{sectionStart}
 use Rattle.section_3_geometry.specs.declared.Grid.{Grid}
 use Rattle.section_3_geometry.specs.declared.Position.{Position}
-use Rattle.section_3_geometry.specs.Positions.{pointsOf}
+use Rattle.section_3_geometry.specs.Geometry.{pointsOf}
 use Rattle.section_4.specs.declared.Level.{Level}
 use Rattle.section_4.specs.declared.Level.the-variants as Level
 use Rattle.section_4.specs.declared.Kind.{Kind}

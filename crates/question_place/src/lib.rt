@@ -19,7 +19,7 @@ pub fn place(file: &[u8], k: usize, n: usize) -> Placed
     match question::judge(file, k, Asks::Point(n)) {
         Described::As(description) => {
             let grid = description.grid;
-            Placed::At(section_3_geometry::position_of(grid, n as u32))
+            Placed::At(section_3_positions::position_of(grid, n as u32))
         }
         Described::Refused(refusal) => Placed::Refused(refusal),
     }

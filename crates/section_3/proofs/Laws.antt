@@ -6,8 +6,7 @@ use Prim.Native.Nat.{ℕ, _*_, _≤_}
 use Rattle.octets.proofs.Cases.{apart, split}
 use Rattle.section.specs.Sections.{held}
 use Rattle.section_3_geometry.specs.declared.Grid.{Grid}
-use Rattle.section_3_geometry.specs.Geometry.{isTaken}
-use Rattle.section_3_geometry.specs.Positions.{Measured}
+use Rattle.section_3_geometry.specs.Geometry.{Measured, isTaken}
 use Rattle.section_3_geometry.proofs.Laws.{taken-measured, taken-points, taken-counts}
 use Rattle.section_3.specs.declared.Radius.{Radius}
 use Rattle.section_3.specs.declared.Radius.the-variants as Radius

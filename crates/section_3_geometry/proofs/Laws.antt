@@ -1,22 +1,19 @@
--- The laws of a grid that others cite: what is known of one that is taken, and that its rows go south by Dj in whole numbers with a sign.
+-- The laws of a grid that others cite: what is known of one that is taken, and that latitudes are ordered by their distance from the north pole.
 use mathlib.Core.Path.{_≡_, sym, ap, _∙_}
 use mathlib.Core.Bool.{Bool, true, false, _&&_}
 use mathlib.Core.Logic.{_↔_}
-use Prim.Native.Nat.{ℕ, zero, suc, _+_, _-_, _*_, _≤_, _<_}
-use native.Mathlib.Nat.{mul-le-mul-right}
+use Prim.Native.Nat.{ℕ, zero, suc, _-_, _*_, _≤_}
 use native.Mathlib.Omega.{arith}
-use borrow.Author.Tests.{ltb-true, ltb-false, leb-true}
-use lib.Dec.{ltb, leb, leb→le, le→leb}
-use lib.IntN.{ℤ, pos, _-ℤ_}
+use lib.Dec.{leb→le, le→leb}
+use lib.IntN.{pos, _-ℤ_}
 use lib.Signed.{_≤ℤ_, leZ-yes}
-use Rattle.octets.proofs.Cases.{split, both}
-use Rattle.octets.proofs.Whole.{minus-less, minus-more, minus-sum}
+use Rattle.octets.proofs.Cases.{both}
+use Rattle.octets.proofs.Whole.{minus-less, minus-more}
 use Rattle.octets.specs.declared.Signed.{Signed}
 use Rattle.octets.specs.Numbers.{whole, wholeOf}
 use Rattle.section_3_geometry.specs.declared.Grid.{Grid}
-use Rattle.section_3_geometry.specs.Geometry.{isCounted, isCornered, isSpanned, isStepped, isTaken, southOf, spanEast, spanSouth}
-use Rattle.section_3_geometry.specs.Positions.{Measured, latitudeAt, latitudeOf}
-use Rattle.section_3_geometry.proofs.Tests.{counted, cornered, south-bound}
+use Rattle.section_3_geometry.specs.Geometry.{Measured, isCounted, isCornered, isStepped, isTaken, southOf}
+use Rattle.section_3_geometry.proofs.Tests.{counted, cornered}
 
 -- A grid that is taken has rows with points, and its first latitude is one.
 pub taken-measured : (g : Grid) (points : ℕ) → isTaken g points ≡ true → Measured g
@@ -36,52 +33,17 @@ taken-counts g points e =
     let count = counted g points (both _ _ (both _ _ e .0) .0) in
     (count .columns1, count .columns65535, count .rows1, count .rows65535)
 
--- A latitude that lies so far south of the north pole has a size.
-at-most : (south : ℕ) → south ≤ 180065534 → latitudeAt south .size ≤ 90065534
-at-most south few =
-    split (ltb 90000000 south)
-    (λ past. rw past (omega arith))
-    (λ before. rw before (omega arith))
-
--- Its last latitude is one too, and no row lies farther past the last latitude than there are steps.
+-- Its last latitude is one too.
 pub taken-last : (g : Grid) (points : ℕ) → isTaken g points ≡ true → g .last .latitude .size ≤ 90000000
 taken-last g points e = cornered g (both (isCounted g points) (isCornered g) (both (isCounted g points && isCornered g) (isStepped g) e .0) .1) .last .latitude
 
-pub taken-rows : (g : Grid) (points j : ℕ) → isTaken g points ≡ true → j < g .nj → latitudeOf g j .size ≤ 90065534
-taken-rows g points j e inside =
-    let tests = both (isCounted g points && isCornered g) (isStepped g) e in
-    let front = both (isCounted g points) (isCornered g) (tests .0) in
-    let rows = g .nj - 1 in
-    let spanned = both (isSpanned (g .ni - 1) (g .di) (spanEast g)) (isSpanned rows (g .dj) (spanSouth g)) (tests .1) .1 in
-    let steps = leb-true (rows * g .dj) (spanSouth g + rows) (both (leb (spanSouth g) (rows * g .dj + rows)) (leb (rows * g .dj) (spanSouth g + rows)) spanned .1) in
-    let corners = cornered g (front .1) in
-    let fewer : j * g .dj ≤ rows * g .dj = mul-le-mul-right (g .dj) (omega arith) in
-    let most = south-bound (g .last .latitude) (corners .last .latitude) in
-    at-most (southOf (g .first .latitude) + j * g .dj) (omega (arith, fewer, steps, most, corners .southward, counted g points (front .0) .rows65535))
-
--- The latitude so far south of the north pole is 90,000,000 less so much.
-latitude-at-is : (south : ℕ) → whole (latitudeAt south) ≡ pos 90000000 -ℤ pos south
-latitude-at-is south =
-    split (ltb 90000000 south)
-    (λ e.
-    let past : 90000000 + (south - 90000000) ≡ south = omega (arith, ltb-true 90000000 south e) in
-    rw e (sym (minus-more 90000000 (south - 90000000)) ∙ ap (λ (n : ℕ). pos 90000000 -ℤ pos n) past))
-    (λ e. rw e (sym (minus-less 90000000 south (ltb-false 90000000 south e))))
-
--- So is every latitude.
-south-is : (latitude : Signed) → latitude .size ≤ 90000000 → whole latitude ≡ pos 90000000 -ℤ pos (southOf latitude)
+-- Every latitude is 90,000,000 less its distance from the north pole.
+pub south-is : (latitude : Signed) → latitude .size ≤ 90000000 → whole latitude ≡ pos 90000000 -ℤ pos (southOf latitude)
 south-is latitude h = go (latitude .negative) (latitude .size) h
   where
     go : (negative : Bool) (size : ℕ) → size ≤ 90000000 → wholeOf negative size ≡ pos 90000000 -ℤ pos (southOf (record { negative = negative; size = size }))
     go true size h = sym (minus-more 90000000 size)
     go false size h = ap pos (omega arith) ∙ sym (minus-less 90000000 (90000000 - size) (omega arith))
-
--- The latitude of row j is the first less j x Dj.
-pub latitude-is : (g : Grid) (j : ℕ) → g .first .latitude .size ≤ 90000000 → whole (latitudeOf g j) ≡ whole (g .first .latitude) -ℤ pos (j * g .dj)
-latitude-is g j h =
-    latitude-at-is (southOf (g .first .latitude) + j * g .dj)
-    ∙ minus-sum (pos 90000000) (southOf (g .first .latitude)) (j * g .dj)
-    ∙ ap (λ (z : ℤ). z -ℤ pos (j * g .dj)) (sym (south-is (g .first .latitude) h))
 
 -- One latitude lies no farther south than another exactly when it is no less in whole numbers with a sign.
 pub south-orders : (a b : Signed) → a .size ≤ 90000000 → b .size ≤ 90000000 → (southOf a ≤ southOf b) ↔ (whole b ≤ℤ whole a)

@@ -1,3 +1,3 @@
--- What the tests of a grid tell, and the laws of its points. Other crates cite those of `Laws`.
-mod Tests
+-- What the tests of a grid tell, and the laws of a grid that is taken.
+pub mod Tests
 pub mod Laws

@@ -1,10 +1,14 @@
 -- RULES, "Section 3": which numbers make a grid. Its points lie in rows from north to south, and in each row from west to east.
-use Prim.Native.Nat.{ℕ, _+_, _-_, _*_}
+use Prim.Native.Nat.{ℕ, _+_, _-_, _*_, _≤_}
 use mathlib.Core.Bool.{Bool, _&&_, cond}
 use lib.Dec.{eqb, ltb, leb}
 use Rattle.octets.specs.declared.Signed.{Signed}
 use Rattle.section_3_geometry.specs.declared.Position.{Position}
 use Rattle.section_3_geometry.specs.declared.Grid.{Grid}
+
+-- A grid has Ni x Nj points.
+abbrev pub pointsOf : Grid → ℕ
+pointsOf g = g .ni * g .nj
 
 -- Ni and Nj are from 1 to 65,535, and the points that octets 7-10 tell are Ni x Nj, at most 16,777,216.
 abbrev pub isCount : ℕ → Bool
@@ -41,3 +45,8 @@ isStepped g = isSpanned (g .ni - 1) (g .di) (spanEast g) && isSpanned (g .nj - 1
 -- Which grids are taken.
 abbrev pub isTaken : Grid → ℕ → Bool
 isTaken g points = isCounted g points && isCornered g && isStepped g
+
+-- What the question where a point lies asks of a grid: a row has points, and the first latitude is one.
+pub record Measured (g : Grid) : Type 0 where
+  pub columns : 1 ≤ g .ni
+  pub latitude : g .first .latitude .size ≤ 90000000

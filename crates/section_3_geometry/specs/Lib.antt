@@ -1,3 +1,2 @@
--- Which numbers make a grid, and where its points lie.
+-- Which numbers make a grid.
 pub mod Geometry
-pub mod Positions

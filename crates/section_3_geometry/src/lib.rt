@@ -1,9 +1,8 @@
-// The numbers of a grid: which of them make one, and where its points lie (RULES, "Section 3").
+// The numbers of a grid: which of them make one (RULES, "Section 3").
 ghost use mathlib.Core.Path.{_≡_};
 ghost use mathlib.Core.Bool.{true};
 ghost use Prim.Native.Nat.{_≤_, _<_, _^_};
-ghost use Rattle.section_3_geometry.specs.Geometry.{isCounted, southOf, isPosition, isCornered, isSpanned, isStepped, isTaken};
-ghost use Rattle.section_3_geometry.specs.Positions.{Measured, pointsOf, latitudeAt, positionOf};
+ghost use Rattle.section_3_geometry.specs.Geometry.{pointsOf, isCounted, southOf, isPosition, isCornered, isSpanned, isStepped, isTaken};
 use octets::Signed;
 
 // A place on the earth, in millionths of a degree: a latitude with its sign, and a longitude eastward from 0 to 359,999,999.
@@ -58,7 +57,7 @@ fn is_position(position: Position) -> bool
 }
 
 // How far south of the north pole a latitude lies.
-fn south_of(latitude: Signed) -> u64
+pub fn south_of(latitude: Signed) -> u64
     requires { ⌜ latitude .size ≤ 90000000 ⌝ }
     ensures { λ r. ⌜ r ≡ southOf latitude ⌝ }
 {
@@ -135,37 +134,4 @@ pub fn points_of(grid: Grid) -> u32
     ensures { λ r. ⌜ r ≡ pointsOf grid ⌝ }
 {
     grid.ni * grid.nj
-}
-
-// The latitude that lies so far south of the north pole.
-fn latitude_at(south: u64) -> Signed
-    ensures { λ r. ⌜ r ≡ latitudeAt south ⌝ }
-{
-    if 90_000_000 < south {
-        return Signed {
-            negative: true,
-            size: south - 90_000_000,
-        };
-    }
-    Signed {
-        negative: false,
-        size: 90_000_000 - south,
-    }
-}
-
-// Where point `n` of the grid lies.
-pub fn position_of(grid: Grid, n: u32) -> Position
-    requires { ⌜ Measured grid ⌝ }
-    ensures { λ r. ⌜ r ≡ positionOf grid n ⌝ }
-{
-    let i = (n % grid.ni) as u64;
-    let j = (n / grid.ni) as u64;
-    let first = grid.first;
-    let south = south_of(first.latitude) + j * grid.dj as u64;
-    let longitude = ((first.longitude as u64 + i * grid.di as u64) % 360_000_000) as u32;
-    let latitude = latitude_at(south);
-    Position {
-        latitude,
-        longitude,
-    }
 }

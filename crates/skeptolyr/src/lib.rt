@@ -67,7 +67,7 @@ pub extern "C" fn skeptolyr_place(file: &[u8], k: usize, n: usize, position: &mu
     match question::judge(file, k, asks) {
         Described::As(description) => {
             let grid = description.grid;
-            let lies = section_3_geometry::position_of(grid, n as u32);
+            let lies = section_3_positions::position_of(grid, n as u32);
             question_numbers::put_position(position, lies) as u64
         }
         Described::Refused(refusal) => refusals::code_of(refusal),

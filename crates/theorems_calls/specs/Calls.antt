@@ -8,7 +8,8 @@ use lib.ListN.{length}
 use lib.IntN.{ℤ, pos, negsuc}
 use Rattle.tiling_sections.specs.declared.Located.{Located}
 use Rattle.theorems_grammar.specs.Grammar.{Accepted}
-use Rattle.section_3_geometry.specs.Positions.{pointsOf, positionOf}
+use Rattle.section_3_geometry.specs.Geometry.{pointsOf}
+use Rattle.section_3_positions.specs.Positions.{positionOf}
 use Rattle.question.specs.declared.Description.{Description}
 use Rattle.question.specs.Judged.{Judged}
 use Rattle.laws_rows.specs.Rows.{Puts}

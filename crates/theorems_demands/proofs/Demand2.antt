@@ -16,7 +16,8 @@ use Rattle.doubles.specs.Doubles.{isInRange, packingOf, valueOf}
 use Rattle.theorems_grammar.proofs.Accepted.{counts}
 use Rattle.theorems_grammar.proofs.Unique.{unique}
 use Rattle.section_3_geometry.specs.declared.Position.{Position}
-use Rattle.section_3_geometry.specs.Positions.{pointsOf, positionOf}
+use Rattle.section_3_geometry.specs.Geometry.{pointsOf}
+use Rattle.section_3_positions.specs.Positions.{positionOf}
 use Rattle.section_6.specs.declared.Presence as declared
 use Rattle.section_6.specs.declared.Presence.the-variants as Presence
 use Rattle.section_6.specs.Presence.{presentAt, presentBefore}

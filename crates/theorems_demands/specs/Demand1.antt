@@ -18,7 +18,7 @@ use Rattle.theorems_grammar.specs.Refusals.{Before, Faulty}
 use Rattle.section_1.specs.declared.Identification.{Identification}
 use Rattle.section_1.specs.declared.Identified.the-variants as Identified
 use Rattle.section_3_geometry.specs.declared.Grid.{Grid}
-use Rattle.section_3_geometry.specs.Positions.{pointsOf}
+use Rattle.section_3_geometry.specs.Geometry.{pointsOf}
 use Rattle.section_3.specs.declared.Gridded.the-variants as Gridded
 use Rattle.section_4.specs.declared.Defined.the-variants as Defined
 use Rattle.section_5.specs.declared.Representation.{Representation}

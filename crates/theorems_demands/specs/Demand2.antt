@@ -13,7 +13,8 @@ use Rattle.tiling.specs.declared.Checked.the-variants as Checked
 use Rattle.tiling.specs.Tiling.{check}
 use Rattle.theorems_grammar.specs.Grammar.{Accepted}
 use Rattle.section_3_geometry.specs.declared.Position.{Position}
-use Rattle.section_3_geometry.specs.Positions.{pointsOf, positionOf}
+use Rattle.section_3_geometry.specs.Geometry.{pointsOf}
+use Rattle.section_3_positions.specs.Positions.{positionOf}
 use Rattle.doubles.specs.Doubles.{valueOf}
 use Rattle.question.specs.declared.Description.{Description}
 use Rattle.question.specs.declared.Described.the-variants as Described

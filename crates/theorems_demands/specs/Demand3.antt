@@ -5,7 +5,7 @@ use mathlib.Core.Path.{_≡_}
 use mathlib.Core.List.{List}
 use lib.IntN.{pos}
 use lib.Ieee.{Float}
-use Rattle.section_3_geometry.specs.Positions.{pointsOf}
+use Rattle.section_3_geometry.specs.Geometry.{pointsOf}
 use Rattle.theorems_bound.specs.Bound.{exactS, Meets, InLimits}
 use Rattle.question.specs.declared.Description.{Description}
 use Rattle.question.specs.Judge.{integerOf}

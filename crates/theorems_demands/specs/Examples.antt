@@ -15,7 +15,7 @@ use Rattle.calendar.specs.declared.Later.the-variants as Later
 use Rattle.calendar.specs.Calendar.{date, plus}
 use Rattle.doubles.specs.Doubles.{valueOf}
 use Rattle.section_3_geometry.specs.declared.Grid.{Grid}
-use Rattle.section_3_geometry.specs.Positions.{longitudeOf}
+use Rattle.section_3_positions.specs.Positions.{longitudeOf}
 use Rattle.section_6.specs.declared.Presence.the-variants as Presence
 use Rattle.section_6.specs.Presence.{bitmapLength, presentAt}
 use Rattle.section_5_groups.specs.declared.Grouping.{Grouping}

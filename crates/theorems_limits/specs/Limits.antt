@@ -18,7 +18,7 @@ use Rattle.section_1.specs.declared.Identified.the-variants as Identified
 use Rattle.section_1.specs.Identification.{identificationAt}
 use Rattle.section_3_geometry.specs.declared.Position.{Position}
 use Rattle.section_3_geometry.specs.declared.Grid.{Grid}
-use Rattle.section_3_geometry.specs.Positions.{positionOf}
+use Rattle.section_3_positions.specs.Positions.{positionOf}
 use Rattle.section_3.specs.declared.Gridded.the-variants as Gridded
 use Rattle.section_3.specs.Section3.{gridAt}
 use Rattle.section_4.specs.declared.Level.{Level}

@@ -5,6 +5,7 @@ use Rattle.theorems_outcomes.specs.Determined.{Determined, SeenDetermine
 use Rattle.theorems_outcomes.proofs.Facts.{alike, one}
 use Rattle.section_1.proofs as section-1
 use Rattle.section_3_geometry.proofs as section-3-geometry
+use Rattle.section_3_positions.proofs as section-3-positions
 use Rattle.section_3.proofs as section-3
 use Rattle.section_4.proofs as section-4
 use Rattle.section_5_groups.proofs as section-5-groups
@@ -21,11 +22,14 @@ section-1-identification-at _ 𝓤 _ _ _ _ _ _ _ _ _ _ _ _ = one 𝓤 (λ p q. (
 pub section-3-geometry-is-taken : Determined section-3-geometry.is_taken.ended (λ _. section-3-geometry.is_taken.clauses)
 section-3-geometry-is-taken _ 𝓤 _ _ _ _ _ _ _ _ _ _ _ _ = one 𝓤 (λ p q. (alike p q, refl))
 
+pub section-3-geometry-south-of : Determined section-3-geometry.south_of.ended (λ _. section-3-geometry.south_of.clauses)
+section-3-geometry-south-of _ 𝓤 _ _ _ _ _ _ _ _ _ _ _ _ = one 𝓤 (λ p q. (alike p q, refl))
+
 pub section-3-geometry-points-of : Determined section-3-geometry.points_of.ended (λ _. section-3-geometry.points_of.clauses)
 section-3-geometry-points-of _ 𝓤 _ _ _ _ _ _ _ _ _ _ _ _ = one 𝓤 (λ p q. (alike p q, refl))
 
-pub section-3-geometry-position-of : Determined section-3-geometry.position_of.ended (λ _. section-3-geometry.position_of.clauses)
-section-3-geometry-position-of _ 𝓤 _ _ _ _ _ _ _ _ _ _ _ _ = one 𝓤 (λ p q. (alike p q, refl))
+pub section-3-positions-position-of : Determined section-3-positions.position_of.ended (λ _. section-3-positions.position_of.clauses)
+section-3-positions-position-of _ 𝓤 _ _ _ _ _ _ _ _ _ _ _ _ = one 𝓤 (λ p q. (alike p q, refl))
 
 -- Section 3.
 pub section-3-grid-at : Determined section-3.grid_at.ended (λ _. section-3.grid_at.clauses)

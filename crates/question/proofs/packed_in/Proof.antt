@@ -1,6 +1,6 @@
 -- `question::packed_in` meets its contract: sections 6 and 7 are asked in this order, and each answer is what its definition says.
 use mathlib.Core.Path.{_≡_, sym, ap, _∙_}
-use Rattle.section_3_geometry.specs.Positions.{pointsOf}
+use Rattle.section_3_geometry.specs.Geometry.{pointsOf}
 use Rattle.section_6.specs.Presence.{presenceAt}
 use Rattle.section_7.specs.declared.Packed.{Packed}
 use Rattle.section_7.specs.Packing.{dataAt}

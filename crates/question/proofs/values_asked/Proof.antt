@@ -1,7 +1,7 @@
 -- `question::values_asked` meets its contract: room is tried first, and the integers behind it.
 use mathlib.Core.Path.{_≡_, sym, _∙_}
 use borrow.Author.Tests.{not-true, not-false}
-use Rattle.section_3_geometry.specs.Positions.{pointsOf}
+use Rattle.section_3_geometry.specs.Geometry.{pointsOf}
 use Rattle.question.specs.Judge.{hasRoom}
 use Rattle.question.proofs.Known.{few-points, asked-cramped, asked-outside, asked-given}
 use borrow.Author.Needs.{needs}

@@ -3,7 +3,7 @@ use mathlib.Core.Path.{sym, _∙_}
 use Prim.Native.Nat.{ℕ}
 use native.Mathlib.Omega.{arith}
 use Rattle.section.specs.Sections.{octetsIn}
-use Rattle.section_3_geometry.specs.Positions.{pointsOf}
+use Rattle.section_3_geometry.specs.Geometry.{pointsOf}
 use Rattle.values_integers.specs.Integers.{simpleInteger}
 use Rattle.values_complex.specs.Complex.{sizeIn}
 use Rattle.question.proofs.Known.{seven-lies, few-points, scaled, bits-fit, packed-present, groups-sound, groups-values, groups-decodable}

@@ -4,7 +4,7 @@ use Prim.Native.Nat.{ℕ}
 use native.Mathlib.Omega.{arith}
 use Rattle.bits.specs.Bits.{bitAt}
 use Rattle.section.specs.Sections.{octetsIn}
-use Rattle.section_3_geometry.specs.Positions.{pointsOf}
+use Rattle.section_3_geometry.specs.Geometry.{pointsOf}
 use Rattle.section_6.specs.Presence.{bitmapIn, onesBefore}
 use Rattle.values_integers.specs.Integers.{simpleInteger}
 use Rattle.values_complex.specs.Complex.{sizeIn}

@@ -7,7 +7,7 @@ use lib.ListN.{length}
 use mir.Syntax.{w64}
 use mir.Facts.{toZ-pos}
 use Rattle.laws_rows.specs.Rows.{Puts}
-use Rattle.section_3_geometry.specs.Positions.{pointsOf}
+use Rattle.section_3_geometry.specs.Geometry.{pointsOf}
 use Rattle.question_numbers.specs.Numbers.{positionNumbers}
 use Rattle.question_numbers.proofs.Laws.{puts-four}
 use borrow.Author.Needs.{needs}

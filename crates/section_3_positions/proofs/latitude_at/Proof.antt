@@ -1,9 +1,9 @@
--- `section_3_geometry::latitude_at` meets its contract: north and south of the equator the test on the distance decides.
+-- `section_3_positions::latitude_at` meets its contract: north and south of the equator the test on the distance decides.
 use native.Mathlib.Omega.{arith}
 use borrow.Author.Needs.{needs}
 use borrow.Author.Tests.{lt-ltb, le-ltb}
-use Rattle.section_3_geometry.proofs.latitude_at.Statement.{statement}
-use Rattle.section_3_geometry.proofs.latitude_at.Tie as tie
+use Rattle.section_3_positions.proofs.latitude_at.Statement.{statement}
+use Rattle.section_3_positions.proofs.latitude_at.Tie as tie
 
 sub-t3 : tie.Need-sub-t3
 sub-t3 c = search needs

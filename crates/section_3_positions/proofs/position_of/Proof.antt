@@ -1,11 +1,11 @@
--- `section_3_geometry::position_of` meets its contract: the remainder and the quotient by Ni are of 32 bits as the point is, so that all sums fit.
+-- `section_3_positions::position_of` meets its contract: the remainder and the quotient by Ni are of 32 bits as the point is, so that all sums fit.
 use Prim.Native.Nat.{_+_, _*_, _/_, _%_, _^_, _≤_}
 use native.Mathlib.Nat.{mod-le, div-le-self}
 use native.Mathlib.Omega.{arith}
 use borrow.Author.Needs.{needs}
 use Rattle.section_3_geometry.proofs.Tests.{south-bound, product-bound}
-use Rattle.section_3_geometry.proofs.position_of.Statement.{statement}
-use Rattle.section_3_geometry.proofs.position_of.Tie as tie
+use Rattle.section_3_positions.proofs.position_of.Statement.{statement}
+use Rattle.section_3_positions.proofs.position_of.Tie as tie
 
 rem-i : tie.Need-rem-i
 rem-i c = search needs

@@ -1,20 +1,11 @@
 -- RULES, "Section 3": where point n of a grid lies. A grid's points are counted along its rows.
-use Prim.Native.Nat.{ℕ, _+_, _-_, _*_, _/_, _%_, _≤_}
+use Prim.Native.Nat.{ℕ, _+_, _-_, _*_, _/_, _%_}
 use mathlib.Core.Bool.{cond}
 use lib.Dec.{ltb}
 use Rattle.octets.specs.declared.Signed.{Signed}
 use Rattle.section_3_geometry.specs.declared.Position.{Position}
 use Rattle.section_3_geometry.specs.declared.Grid.{Grid}
 use Rattle.section_3_geometry.specs.Geometry.{southOf}
-
--- What the question asks of a grid: a row has points, and the first latitude is one.
-pub record Measured (g : Grid) : Type 0 where
-  pub columns : 1 ≤ g .ni
-  pub latitude : g .first .latitude .size ≤ 90000000
-
--- A grid has Ni x Nj points.
-abbrev pub pointsOf : Grid → ℕ
-pointsOf g = g .ni * g .nj
 
 -- Point n is in column n mod Ni and row n div Ni.
 abbrev pub columnOf : Grid → ℕ → ℕ

@@ -1,0 +1,2 @@
+-- The laws of the places of points.
+pub mod Laws

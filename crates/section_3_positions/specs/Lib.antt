@@ -1,0 +1,2 @@
+-- Where the points of a grid lie.
+pub mod Positions
