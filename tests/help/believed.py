@@ -21,7 +21,7 @@ PINNED = {
     'question_place/specs/Place.antt': {'place'},
     'question_decode/specs/Decoding.antt': {'answer', 'valuesLeft', 'presenceLeft'},
     'doubles/specs/Doubles.antt': {'rebuildOne', 'valueOf'},
-    'skeptolyr/specs/Codes.antt': {'numbersCode', 'numbersLeft', 'describedFor', 'placedFor'},
+    'skeptolyr/specs/Codes.antt': {'numbersCode', 'numbersLeft', 'positionIn', 'describedFor', 'placedFor'},
 }
 # The function that the program `listing` calls for all that it prints: docs/DEMANDS.md lists the program, since this one asks for a run that is long enough.
 LISTING = 'listing_file::list'

@@ -79,7 +79,8 @@ class Number(NamedTuple):
 
 
 def numbers():
-    """The numbers of all definitions that compute something. Those of a record or of another type state what was judged before, and decide nothing."""
+    """The numbers of all definitions that compute something. Those of a record or of another type state what was judged before, and decide nothing, or are of
+    the relation `LiesAt`, which `lie-as-expected` and the worked examples pin."""
     for file in DEFINITIONS:
         definition, count = None, 0
         for line, text in enumerate(text_of(file).split('\n')):

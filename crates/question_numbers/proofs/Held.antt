@@ -1,16 +1,16 @@
 -- The numbers of a field that is described, and of where its points lie, are within what the machine's numbers with a sign hold.
 use mathlib.Core.Path.{_≡_, sym, subst}
 use mathlib.Core.List.{List}
-use Prim.Native.Nat.{ℕ, _/_, _%_, _≤_, _<_}
-use native.Mathlib.Nat.{mod-lt, mul-comm, div-lt-iff-lt-mul}
+use Prim.Native.Nat.{ℕ, _%_, _≤_, _<_}
+use native.Mathlib.Nat.{mod-lt}
 use native.Mathlib.Omega.{arith}
 use lib.Dec.{eqb, leb}
 use Rattle.octets.proofs.Cases.{apart, split}
 use Rattle.section.specs.Sections.{octet, held, heldSigned}
 use Rattle.section_3_geometry.specs.Geometry.{pointsOf}
-use Rattle.section_3_positions.specs.Positions.{positionOf}
-use Rattle.section_3_geometry.proofs.Laws.{taken-last}
-use Rattle.section_3_positions.proofs.Laws.{taken-rows}
+use Rattle.section_3_geometry.proofs.Tests.{placed, cornered}
+use Rattle.section_3_positions.specs.Quotients.{positionOf}
+use Rattle.section_3_positions.proofs.Laws.{position-lies, lie-as-expected}
 use Rattle.section_3.proofs.Laws.{grid-passes}
 use Rattle.section_4.specs.declared.Level as declaredLevel
 use Rattle.section_4.specs.declared.Level.the-variants as Level
@@ -63,18 +63,19 @@ module _ (file : List ℕ) (k : ℕ) {d : Description} (said : describe file k �
   described-held =
       let known = described file k said in
       let grid = described-grid file k said in
+      let corners = cornered (d .grid) (grid .0 .corners) in
       let scales = scaled file d (k, said) in
       record {
-        ofGrid = (grid .0 .latitude, taken-last (d .grid) _ (grid-passes file (known .0 .starts .three .0) (known .2 .ofThree)), grid .1);
+        ofGrid = (corners .first .latitude, corners .last .latitude, grid .1);
         ofLevel = level-held file (known .0 .starts .four .0) (d .definition .level) (defined-tells file (known .0 .starts .four .0) (d .identification .reference) (known .2 .ofFour) .level);
         ofRepresentation = (scales .e127, scales .d22);
         ofStarts = starts-held;
       }
 
-  -- A point that the field has lies in one of its rows.
+  -- A point that the field has lies on the earth.
   pub placed-held : (n : ℕ) → n < pointsOf (d .grid) → positionOf (d .grid) n .latitude .size < 9223372036854775808
   placed-held n inside =
       let known = described file k said in
       let g = d .grid in
-      let row : n / g .ni < g .nj = div-lt-iff-lt-mul {k = g .ni} {x = n} {y = g .nj} (described-grid file k said .0 .columns) .1 (omega (arith, inside, mul-comm (g .ni) (g .nj))) in
-      omega (arith, taken-rows g _ (n / g .ni) (grid-passes file (known .0 .starts .three .0) (known .2 .ofThree)) row)
+      let lies = lie-as-expected g _ (grid-passes file (known .0 .starts .three .0) (known .2 .ofThree)) in
+      omega (arith, placed (positionOf g n) (lies .onEarth (position-lies g n) inside) .latitude)

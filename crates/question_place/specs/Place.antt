@@ -1,7 +1,7 @@
 -- RULES, "Section 3": the question place. A point that the field has is placed by the field's grid.
 use Prim.Native.Nat.{ℕ}
 use mathlib.Core.List.{List}
-use Rattle.section_3_positions.specs.Positions.{positionOf}
+use Rattle.section_3_positions.specs.Quotients.{positionOf}
 use Rattle.question.specs.declared.Described.{Described}
 use Rattle.question.specs.declared.Described.the-variants as Described
 use Rattle.question.specs.declared.Asks.the-variants as Asks

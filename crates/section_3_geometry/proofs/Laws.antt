@@ -1,6 +1,6 @@
 -- The laws of a grid that others cite: what is known of one that is taken, and that latitudes are ordered by their distance from the north pole.
 use mathlib.Core.Path.{_≡_, sym, ap, _∙_}
-use mathlib.Core.Bool.{Bool, true, false, _&&_}
+use mathlib.Core.Bool.{Bool, true, false}
 use mathlib.Core.Logic.{_↔_}
 use Prim.Native.Nat.{ℕ, zero, suc, _-_, _*_, _≤_}
 use native.Mathlib.Omega.{arith}
@@ -12,14 +12,15 @@ use Rattle.octets.proofs.Whole.{minus-less, minus-more}
 use Rattle.octets.specs.declared.Signed.{Signed}
 use Rattle.octets.specs.Numbers.{whole, wholeOf}
 use Rattle.section_3_geometry.specs.declared.Grid.{Grid}
-use Rattle.section_3_geometry.specs.Geometry.{Measured, isCounted, isCornered, isStepped, isTaken, southOf}
-use Rattle.section_3_geometry.proofs.Tests.{counted, cornered}
+use Rattle.section_3_geometry.specs.Geometry.{Measured, isTaken, southOf}
+use Rattle.section_3_geometry.proofs.Tests.{counted}
 
--- A grid that is taken has rows with points, and its first latitude is one.
+-- A grid that is taken has columns and rows, and its corners are places in order.
 pub taken-measured : (g : Grid) (points : ℕ) → isTaken g points ≡ true → Measured g
 taken-measured g points e =
     let tests = both _ _ (both _ _ e .0) in
-    record { columns = counted g points (tests .0) .columns1; latitude = cornered g (tests .1) .first .latitude }
+    let count = counted g points (tests .0) in
+    record { columns = count .columns1; rows = count .rows1; corners = tests .1 }
 
 -- It has as many points as are told, at most 16,777,216.
 pub taken-points : (g : Grid) (points : ℕ) → isTaken g points ≡ true → (points ≡ g .ni * g .nj) × (points ≤ 16777216)
@@ -32,10 +33,6 @@ pub taken-counts : (g : Grid) (points : ℕ) → isTaken g points ≡ true → (
 taken-counts g points e =
     let count = counted g points (both _ _ (both _ _ e .0) .0) in
     (count .columns1, count .columns65535, count .rows1, count .rows65535)
-
--- Its last latitude is one too.
-pub taken-last : (g : Grid) (points : ℕ) → isTaken g points ≡ true → g .last .latitude .size ≤ 90000000
-taken-last g points e = cornered g (both (isCounted g points) (isCornered g) (both (isCounted g points && isCornered g) (isStepped g) e .0) .1) .last .latitude
 
 -- Every latitude is 90,000,000 less its distance from the north pole.
 pub south-is : (latitude : Signed) → latitude .size ≤ 90000000 → whole latitude ≡ pos 90000000 -ℤ pos (southOf latitude)

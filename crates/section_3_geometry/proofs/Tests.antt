@@ -1,16 +1,16 @@
 -- What each test of a grid tells of its numbers, and how large the numbers are that the tests reckon with.
-use mathlib.Core.Path.{_≡_}
+use mathlib.Core.Path.{_≡_, sym, ap, _∙_}
 use mathlib.Core.Bool.{Bool, true, false}
-use Prim.Native.Nat.{ℕ, _+_, _*_, _^_, _≤_, _<_}
+use Prim.Native.Nat.{ℕ, _+_, _-_, _*_, _^_, _≤_, _<_}
 use native.Mathlib.Nat.{mul-le-mul}
 use native.Mathlib.Omega.{arith}
-use borrow.Author.Tests.{leb-true, le-leb, eqb-true, eq-eqb}
-use lib.Dec.{leb}
+use borrow.Author.Tests.{ltb-true, leb-true, le-leb, eqb-true, eq-eqb}
+use lib.Dec.{ltb, leb}
 use Rattle.octets.proofs.Cases.{split, both}
 use Rattle.octets.specs.declared.Signed.{Signed}
 use Rattle.section_3_geometry.specs.declared.Position.{Position}
 use Rattle.section_3_geometry.specs.declared.Grid.{Grid}
-use Rattle.section_3_geometry.specs.Geometry.{isCounted, isPosition, isCornered, isStepped, isTaken, southOf}
+use Rattle.section_3_geometry.specs.Geometry.{isCounted, isPosition, isCornered, isSpanned, isStepped, isTaken, southOf, spanEast, spanSouth}
 
 -- What is known of a grid whose points are counted, of a position, and of a grid whose corners are positions in order.
 pub record Counted (g : Grid) (points : ℕ) : Type 0 where
@@ -75,11 +75,32 @@ south-bound latitude h = go (latitude .negative) (latitude .size) h
     go true size h = omega arith
     go false size h = omega arith
 
+-- So the spans of a grid whose corners are places in order are below a full turn, and below half a one.
+pub span-east-bound : (g : Grid) → Cornered g → spanEast g ≤ 359999999
+span-east-bound g corners =
+    split (ltb (g .last .longitude) (g .first .longitude))
+    (λ past. rw past (omega (arith, ltb-true (g .last .longitude) (g .first .longitude) past, corners .first .longitude)))
+    (λ before. rw before (omega (arith, corners .last .longitude)))
+
+pub span-south-bound : (g : Grid) → Cornered g → spanSouth g ≤ 180000000
+span-south-bound g corners = omega (arith, south-bound (g .last .latitude) (corners .last .latitude))
+
 -- The product of two numbers of 32 bits leaves room for the sum with a third in 64.
 pub product-bound : {a b : ℕ} → a < 2 ^ 32 → b < 2 ^ 32 → a * b + 2 ^ 33 ≤ 2 ^ 64 + 1
 product-bound {a} {b} h k =
     let most : a * b ≤ 4294967295 * 4294967295 = mul-le-mul {n₂ = 4294967295} {m₂ = 4294967295} (omega arith) (omega arith) in
     omega arith
+
+-- The spans are tested one after the other: the one to the south decides where the one to the east has passed.
+module _ (g : Grid) where
+  abbrev Spanned : ℕ → Bool
+  Spanned span = isSpanned (g .ni - 1) (g .di) span
+
+  pub east-fails : {span : ℕ} → span ≡ spanEast g → Spanned span ≡ false → isStepped g ≡ false
+  east-fails is fails = rw (ap Spanned (sym is) ∙ fails)
+
+  pub south-decides : {span : ℕ} → span ≡ spanEast g → Spanned span ≡ true → isStepped g ≡ isSpanned (g .nj - 1) (g .dj) (spanSouth g)
+  south-decides is holds = rw (ap Spanned (sym is) ∙ holds)
 
 -- The three tests of a grid, in order: where the first two hold, the steps decide.
 module _ (g : Grid) (points : ℕ) where

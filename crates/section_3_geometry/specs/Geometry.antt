@@ -1,6 +1,7 @@
 -- RULES, "Section 3": which numbers make a grid. Its points lie in rows from north to south, and in each row from west to east.
 use Prim.Native.Nat.{ℕ, _+_, _-_, _*_, _≤_}
-use mathlib.Core.Bool.{Bool, _&&_, cond}
+use mathlib.Core.Path.{_≡_}
+use mathlib.Core.Bool.{Bool, true, _&&_, cond}
 use lib.Dec.{eqb, ltb, leb}
 use Rattle.octets.specs.declared.Signed.{Signed}
 use Rattle.section_3_geometry.specs.declared.Position.{Position}
@@ -46,7 +47,8 @@ isStepped g = isSpanned (g .ni - 1) (g .di) (spanEast g) && isSpanned (g .nj - 1
 abbrev pub isTaken : Grid → ℕ → Bool
 isTaken g points = isCounted g points && isCornered g && isStepped g
 
--- What the question where a point lies asks of a grid: a row has points, and the first latitude is one.
+-- What the question where a point lies asks of a grid: it has columns and rows, and its first and last point are places on the earth in order.
 pub record Measured (g : Grid) : Type 0 where
   pub columns : 1 ≤ g .ni
-  pub latitude : g .first .latitude .size ≤ 90000000
+  pub rows : 1 ≤ g .nj
+  pub corners : isCornered g ≡ true

@@ -2,7 +2,7 @@
 ghost use mathlib.Core.Path.{_≡_};
 ghost use mathlib.Core.Bool.{true};
 ghost use Prim.Native.Nat.{_≤_, _<_, _^_};
-ghost use Rattle.section_3_geometry.specs.Geometry.{pointsOf, isCounted, southOf, isPosition, isCornered, isSpanned, isStepped, isTaken};
+ghost use Rattle.section_3_geometry.specs.Geometry.{pointsOf, isCounted, southOf, isPosition, isCornered, spanEast, spanSouth, isSpanned, isStepped, isTaken};
 use octets::Signed;
 
 // A place on the earth, in millionths of a degree: a latitude with its sign, and a longitude eastward from 0 to 359,999,999.
@@ -83,6 +83,30 @@ fn is_cornered(grid: Grid) -> bool
     south_of(first.latitude) <= south_of(last.latitude)
 }
 
+// How far east of the first point the last one lies: past 360 degrees where its longitude is the smaller one.
+pub fn span_east(grid: Grid) -> u64
+    requires { ⌜ isCornered grid ≡ true ⌝ }
+    ensures { λ r. ⌜ r ≡ spanEast grid ⌝ }
+{
+    let west = grid.first.longitude as u64;
+    let east = grid.last.longitude as u64;
+    if east < west {
+        east + 360_000_000 - west
+    } else {
+        east - west
+    }
+}
+
+// How far south of the first point the last one lies.
+pub fn span_south(grid: Grid) -> u64
+    requires { ⌜ isCornered grid ≡ true ⌝ }
+    ensures { λ r. ⌜ r ≡ spanSouth grid ⌝ }
+{
+    let first = grid.first.latitude;
+    let last = grid.last.latitude;
+    south_of(last) - south_of(first)
+}
+
 // Does the span differ from so many steps by at most their number?
 fn is_spanned(steps: u32, step: u32, span: u64) -> bool
     requires { ⌜ (steps ≤ 65534) × (span < 2 ^ 32) ⌝ }
@@ -100,19 +124,10 @@ fn is_stepped(grid: Grid) -> bool
     requires { ⌜ (1 ≤ grid .ni) × (grid .ni ≤ 65535) × (1 ≤ grid .nj) × (grid .nj ≤ 65535) × (isCornered grid ≡ true) ⌝ }
     ensures { λ r. ⌜ r ≡ isStepped grid ⌝ }
 {
-    let west = grid.first.longitude as u64;
-    let east = grid.last.longitude as u64;
-    let first = grid.first.latitude;
-    let last = grid.last.latitude;
-    let span = if east < west {
-        east + 360_000_000 - west
-    } else {
-        east - west
-    };
-    if !is_spanned(grid.ni - 1, grid.di, span) {
+    if !is_spanned(grid.ni - 1, grid.di, span_east(grid)) {
         return false;
     }
-    is_spanned(grid.nj - 1, grid.dj, south_of(last) - south_of(first))
+    is_spanned(grid.nj - 1, grid.dj, span_south(grid))
 }
 
 // Do these numbers make a grid with so many points?

@@ -1,11 +1,12 @@
--- RULES, "Section 3": where point n of a grid lies. A grid's points are counted along its rows.
-use Prim.Native.Nat.{ℕ, _+_, _-_, _*_, _/_, _%_}
+-- RULES, "Section 3": where point n of a grid lies. A grid's points are counted along its rows, and spread evenly between its first and its last.
+use Prim.Native.Nat.{ℕ, _+_, _-_, _*_, _/_, _%_, _≤_, _<_}
+use mathlib.Core.Path.{_≡_}
 use mathlib.Core.Bool.{cond}
 use lib.Dec.{ltb}
 use Rattle.octets.specs.declared.Signed.{Signed}
 use Rattle.section_3_geometry.specs.declared.Position.{Position}
 use Rattle.section_3_geometry.specs.declared.Grid.{Grid}
-use Rattle.section_3_geometry.specs.Geometry.{southOf}
+use Rattle.section_3_geometry.specs.Geometry.{southOf, spanEast, spanSouth}
 
 -- Point n is in column n mod Ni and row n div Ni.
 abbrev pub columnOf : Grid → ℕ → ℕ
@@ -14,18 +15,34 @@ columnOf g n = n % g .ni
 abbrev pub rowOf : Grid → ℕ → ℕ
 rowOf g n = n / g .ni
 
--- The latitude that lies so far south of the north pole. Past the equator it is below zero; it may pass the south pole.
+-- How far apart two numbers are.
+abbrev pub gap : ℕ → ℕ → ℕ
+gap m n = (m - n) + (n - m)
+
+-- The whole number nearest to a / b, halves up: none is nearer, and none that is as near is larger. Each gap is taken b times.
+pub record Nearest (a b n : ℕ) : Type 0 where
+  pub near : (m : ℕ) → gap a (n * b) ≤ gap a (m * b)
+  pub up : (m : ℕ) → gap a (m * b) ≡ gap a (n * b) → m ≤ n
+
+-- Of so many points, counted from 0, the last lies a span away from the first. So point i lies i x span / (count - 1) away, as the nearest whole number. A
+-- single point is the first.
+pub record Away (count span i away : ℕ) : Type 0 where
+  pub single : count ≡ 1 → away ≡ 0
+  pub spread : 1 < count → Nearest (i * span) (count - 1) away
+
+-- The longitude that lies so far east of 0 degrees, less all full turns.
+abbrev pub longitudeAt : ℕ → ℕ
+longitudeAt east = east % 360000000
+
+-- The latitude that lies so far south of the north pole. Past the equator it is below zero.
 abbrev pub latitudeAt : ℕ → Signed
 latitudeAt south = record { negative = ltb 90000000 south; size = cond (ltb 90000000 south) (south - 90000000) (90000000 - south) }
 
--- The latitude of row j is the first less j x Dj: so much farther south.
-abbrev pub latitudeOf : Grid → ℕ → Signed
-latitudeOf g j = latitudeAt (southOf (g .first .latitude) + j * g .dj)
-
--- The longitude of column i is the remainder of the first and i x Di by a full turn.
-abbrev pub longitudeOf : Grid → ℕ → ℕ
-longitudeOf g i = (g .first .longitude + i * g .di) % 360000000
-
--- Where point n lies.
-abbrev pub positionOf : Grid → ℕ → Position
-positionOf g n = record { latitude = latitudeOf g (rowOf g n); longitude = longitudeOf g (columnOf g n) }
+-- Where point n lies: so far east of the first point as its column is away, and so far south as its row is.
+pub record LiesAt (g : Grid) (n : ℕ) (p : Position) : Type 0 where
+  pub east : ℕ
+  pub south : ℕ
+  pub column : Away (g .ni) (spanEast g) (columnOf g n) east
+  pub row : Away (g .nj) (spanSouth g) (rowOf g n) south
+  pub longitude : p .longitude ≡ longitudeAt (g .first .longitude + east)
+  pub latitude : p .latitude ≡ latitudeAt (southOf (g .first .latitude) + south)

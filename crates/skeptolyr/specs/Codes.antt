@@ -8,7 +8,7 @@ use Rattle.laws_rows.specs.Rows.{laid}
 use Rattle.refusals.specs.Refusals.{codeOf}
 use Rattle.tiling.specs.declared.Checked.{Checked}
 use Rattle.tiling.specs.declared.Checked.the-variants as Checked
-use Rattle.section_3_positions.specs.Positions.{positionOf}
+use Rattle.section_3_positions.specs.Quotients.{positionOf}
 use Rattle.question.specs.declared.Description.{Description}
 use Rattle.question.specs.declared.Described.{Described}
 use Rattle.question.specs.declared.Described.the-variants as Described

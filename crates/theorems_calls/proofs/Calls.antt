@@ -24,6 +24,8 @@ use Rattle.question_decode.specs.declared.Decoded.the-variants as Decoded
 use Rattle.question_decode.proofs.Laws.{Small as DecodedSmall, decode-small}
 use Rattle.question.specs.declared.Asks.the-variants as Asks
 use Rattle.question.specs.Judge.{judge}
+use Rattle.section_3_positions.specs.Quotients.{positionOf}
+use Rattle.section_3_positions.proofs.Laws.{position-lies}
 use Rattle.question.proofs.Laws.{judge-placed, judged-numbers, judged-position}
 use Rattle.question_numbers.specs.Numbers.{numbersOf}
 use Rattle.question_numbers.proofs.Laws.{description-length}
@@ -123,7 +125,7 @@ module _ (file : List ℕ) where
           record {
             refused = λ top. absurd (omega (arith, top));
             answered = λ _. demand-1 file .answers (placeInto k n (length before)) .0 (ap ofDescribed said);
-            placed = λ _. (known .0, d, known .1, known .2, asked .1, (refl, refl));
+            placed = λ _. (known .0, d, positionOf (d .grid) n, known .1, known .2, asked .1, position-lies (d .grid) n, (refl, refl));
           }
       by (Described.Refused r) said =
           record {

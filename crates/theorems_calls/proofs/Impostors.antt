@@ -20,12 +20,13 @@ use Rattle.section_5.specs.Representation.{representationAt}
 use Rattle.section_6.specs.Presence.{onesBefore, presentBefore, presenceAt}
 use Rattle.section_7.specs.Packing.{dataAt}
 use Rattle.question.specs.declared.Asks.the-variants as Asks
+use Rattle.question.specs.declared.Description.{Description}
 use Rattle.question.specs.Describe.{describedAt}
 use Rattle.question.specs.Judge.{judge}
 use Rattle.question_numbers.specs.Numbers.{numbersOf}
 use Rattle.skeptolyr.specs.Codes.{numbersLeft, positionIn}
-use Rattle.theorems_demands.specs.Sample.{twoFields}
-use Rattle.theorems_calls.specs.Impostors.{Told, NoImpostorForC}
+use Rattle.theorems_demands.specs.Sample.{twoFields, fieldInARow}
+use Rattle.theorems_calls.specs.Impostors.{Told, bySteps, roundedDown, NoImpostorForC}
 
 -- Runs of zeros, with room for a description and for a position.
 abbrev zeros : List ℤ
@@ -40,19 +41,40 @@ described k = numbersLeft numbersOf zeros (judge twoFields k (Asks.Numbers (leng
 abbrev placed : ℕ → List ℤ
 placed n = numbersLeft (positionIn n) twoZeros (judge twoFields 0 (Asks.Position n 2))
 
+-- The same in a row of four, and what the impostors would put there.
+abbrev inARow : (ℕ → Description → List ℤ) → ℕ → List ℤ
+inARow told n = numbersLeft (told n) twoZeros (judge fieldInARow 0 (Asks.Position n 2))
+
 -- The first field is of category 0, temperature, and the second of category 1, moisture; the radius of both is 6,371,229 m. Point 0 of the first lies at 36
--- degrees north and 135 degrees east, and point 1 a degree farther east.
+-- degrees north and 135 degrees east, and point 1 a degree farther east. In a row from 135 to 136.000001 degrees, point 1 lies a third of the way, as the nearest
+-- number, and point 3 at its end.
 pub record InTheSample : Type 0 where
   pub radius : getD (described 0) 9 (pos 0) ≡ pos 6371229
   pub temperature : getD (described 0) 19 (pos 0) ≡ pos 0
   pub moisture : getD (described 1) 19 (pos 0) ≡ pos 1
   pub point-0 : placed 0 ≡ pos 36000000 ∷ pos 135000000 ∷ []
   pub point-1 : placed 1 ≡ pos 36000000 ∷ pos 136000000 ∷ []
+  pub third : inARow positionIn 1 ≡ pos 36000000 ∷ pos 135333334 ∷ []
+  pub third-rounded-down : inARow roundedDown 1 ≡ pos 36000000 ∷ pos 135333333 ∷ []
+  pub end : inARow positionIn 3 ≡ pos 36000000 ∷ pos 136000001 ∷ []
+  pub end-by-steps : inARow bySteps 3 ≡ pos 36000000 ∷ pos 135999999 ∷ []
   pub zero : getD zeros 9 (pos 0) ≡ pos 0
 
 sample : InTheSample
-unfolding twoFields numberAt run runFor sectionAt startsAfter bitmapAfter headerAt message identificationAt gridAt productDefinitionAt representationAt presenceAt onesBefore presentBefore dataAt describedAt row bitAt bitsAt isLeap monthLength tomorrow daysAfter ofBits
-sample = record { radius = refl; temperature = refl; moisture = refl; point-0 = refl; point-1 = refl; zero = refl }
+unfolding twoFields fieldInARow numberAt run runFor sectionAt startsAfter bitmapAfter headerAt message identificationAt gridAt productDefinitionAt representationAt presenceAt onesBefore presentBefore dataAt describedAt row bitAt bitsAt isLeap monthLength tomorrow daysAfter ofBits
+sample =
+    record {
+      radius = refl;
+      temperature = refl;
+      moisture = refl;
+      point-0 = refl;
+      point-1 = refl;
+      third = refl;
+      third-rounded-down = refl;
+      end = refl;
+      end-by-steps = refl;
+      zero = refl;
+    }
 
 -- Two numbers without a sign are the same only where their sizes are.
 unlike : {A : Type 0} {m n : ℕ} → pos m ≡ pos n → (m ≡ n → A) → A
@@ -76,4 +98,10 @@ no-impostor-for-c =
       places-nothing = λ f meets same.
           let alike : placed 0 ≡ twoZeros = ap (λ (t : Told). t .run) (sym (meets twoFields 0 0 twoZeros)) ∙ same twoFields 0 0 twoZeros in
           unlike (longitude (sym (sample .point-0) ∙ alike)) (λ e. omega (arith, e));
+      places-by-steps = λ f meets same.
+          let alike : inARow positionIn 3 ≡ inARow bySteps 3 = ap (λ (t : Told). t .run) (sym (meets fieldInARow 0 3 twoZeros)) ∙ same fieldInARow 0 3 twoZeros in
+          unlike (longitude (sym (sample .end) ∙ alike ∙ sample .end-by-steps)) (λ e. omega (arith, e));
+      places-rounded-down = λ f meets same.
+          let alike : inARow positionIn 1 ≡ inARow roundedDown 1 = ap (λ (t : Told). t .run) (sym (meets fieldInARow 0 1 twoZeros)) ∙ same fieldInARow 0 1 twoZeros in
+          unlike (longitude (sym (sample .third) ∙ alike ∙ sample .third-rounded-down)) (λ e. omega (arith, e));
     }

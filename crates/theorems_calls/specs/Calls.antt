@@ -9,7 +9,8 @@ use lib.IntN.{ℤ, pos, negsuc}
 use Rattle.tiling_sections.specs.declared.Located.{Located}
 use Rattle.theorems_grammar.specs.Grammar.{Accepted}
 use Rattle.section_3_geometry.specs.Geometry.{pointsOf}
-use Rattle.section_3_positions.specs.Positions.{positionOf}
+use Rattle.section_3_geometry.specs.declared.Position.{Position}
+use Rattle.section_3_positions.specs.Positions.{LiesAt}
 use Rattle.question.specs.declared.Description.{Description}
 use Rattle.question.specs.Judged.{Judged}
 use Rattle.laws_rows.specs.Rows.{Puts}
@@ -82,7 +83,8 @@ pub record PlaceKeeps (file : List ℕ) (k n : ℕ) (before : List ℤ) (code : 
   pub refused : 2 ^ 63 ≤ code → Refuses file (placeInto k n (length before)) code × (left ≡ before)
   pub answered : code < 2 ^ 63 → (number place : ℕ) → Applies file (placeInto k n (length before)) number place → ⊥
   -- Demand 2: field k has the point, and these are its latitude and its longitude.
-  pub placed : code < 2 ^ 63 → (l : Located) × (d : Description) × FieldAt file k l × Judged file l d × (n < pointsOf (d .grid)) × Puts before 0 (positionNumbers (positionOf (d .grid) n)) left code
+  pub placed : code < 2 ^ 63 →
+      (l : Located) × (d : Description) × (p : Position) × FieldAt file k l × Judged file l d × (n < pointsOf (d .grid)) × LiesAt (d .grid) n p × Puts before 0 (positionNumbers p) left code
 
 -- RULES, "Listing": how a refusal is told, and the line of field k.
 abbrev pub toldAs : ℕ → ℕ → List ℕ

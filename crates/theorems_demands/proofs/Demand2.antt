@@ -1,5 +1,5 @@
 -- The proof of demand 2: what check, describe and place answer, and what decode writes, is what the standard defines.
-use mathlib.Core.Path.{_≡_, refl, ap, _∙_}
+use mathlib.Core.Path.{_≡_, refl, ap, subst, _∙_}
 use mathlib.Core.Bool.{true}
 use mathlib.Core.List.{List}
 use Prim.Native.Nat.{ℕ, _+_, _≤_, _<_}
@@ -17,7 +17,10 @@ use Rattle.theorems_grammar.proofs.Accepted.{counts}
 use Rattle.theorems_grammar.proofs.Unique.{unique}
 use Rattle.section_3_geometry.specs.declared.Position.{Position}
 use Rattle.section_3_geometry.specs.Geometry.{pointsOf}
-use Rattle.section_3_positions.specs.Positions.{positionOf}
+use Rattle.section_3_positions.specs.Positions.{LiesAt}
+use Rattle.section_3_positions.specs.Expected.{AsExpected}
+use Rattle.section_3_positions.proofs.Laws.{position-lies, lies-once, lie-as-expected}
+use Rattle.section_3.proofs.Laws.{grid-passes}
 use Rattle.section_6.specs.declared.Presence as declared
 use Rattle.section_6.specs.declared.Presence.the-variants as Presence
 use Rattle.section_6.specs.Presence.{presentAt, presentBefore}
@@ -31,7 +34,7 @@ use Rattle.question.specs.declared.Described.the-variants as Described
 use Rattle.question.specs.declared.Asks.the-variants as Asks
 use Rattle.question.specs.Describe.{describe}
 use Rattle.question.specs.Judge.{Known, integerOf, isDecodable, hasRoom, judge}
-use Rattle.question.proofs.Laws.{judged-described, judged-point, judged-values, room-fits}
+use Rattle.question.proofs.Laws.{judged-described, judged-point, judged-values, described, described-grid, room-fits}
 use Rattle.question.proofs.Known.{packed-present}
 use Rattle.question_place.specs.declared.Placed.the-variants as Placed
 use Rattle.question_place.specs.Place.{placedBy, place}
@@ -138,12 +141,29 @@ module _ (file : List ℕ) (c : Call) where
       by (Described.Refused r) said e = apart cc
 
 -- Where a point lies.
-placed-is : (file : List ℕ) (k n : ℕ) (p : Position) → place file k n ≡ Placed.At p → (d : Description) × (describe file k ≡ Described.As d) × (n < pointsOf (d .grid)) × (positionOf (d .grid) n ≡ p)
-placed-is file k n p = by (judge file k (Asks.Point n)) refl
-  where
-    by : (a : Described) → judge file k (Asks.Point n) ≡ a → placedBy n a ≡ Placed.At p → (d : Description) × (describe file k ≡ Described.As d) × (n < pointsOf (d .grid)) × (positionOf (d .grid) n ≡ p)
-    by (Described.As d) said e = let known = judged-point file k n said in (d, known .0, known .1, one-position e)
-    by (Described.Refused r) said e = apart cc
+module _ (file : List ℕ) (k n : ℕ) (p : Position) where
+  abbrev Lies : Type 0
+  Lies = (d : Description) × (describe file k ≡ Described.As d) × (n < pointsOf (d .grid)) × LiesAt (d .grid) n p
+
+  placed-lies : place file k n ≡ Placed.At p → Lies
+  placed-lies = by (judge file k (Asks.Point n)) refl
+    where
+      by : (a : Described) → judge file k (Asks.Point n) ≡ a → placedBy n a ≡ Placed.At p → Lies
+      by (Described.As d) said e =
+          let known = judged-point file k n said in
+          (d, known .0, known .1, subst (LiesAt (d .grid) n) (one-position e) (position-lies (d .grid) n))
+      by (Described.Refused r) said e = apart cc
+
+  lies-placed : Lies → place file k n ≡ Placed.At p
+  lies-placed h =
+      let g = h .0 .grid in
+      let measured = described-grid file k (h .1) .0 in
+      rw (h .1, lt-ltb n (pointsOf g) (h .2)) (ap Placed.At (lies-once g n (measured .columns) (measured .rows) (position-lies g n) (h .3)))
+
+expected : (file : List ℕ) (k : ℕ) (d : Description) → describe file k ≡ Described.As d → AsExpected (d .grid)
+expected file k d said =
+    let known = described file k said in
+    lie-as-expected (d .grid) _ (grid-passes file (known .0 .starts .three .0) (known .2 .ofThree))
 
 pub demand-2 : (file : List ℕ) → Demand2 file
 demand-2 file =
@@ -152,6 +172,7 @@ demand-2 file =
       one = unique;
       describes = λ k d. (λ said. described-at file k said, λ h. described-is file (h .1) ∙ judged-described file (h .0) (h .2));
       numbers = in-numbers file;
-      places = λ k n p. (placed-is file k n p, λ h. rw (h .1, lt-ltb n (pointsOf (h .0 .grid)) (h .2)) (ap Placed.At (h .3)));
+      places = λ k n p. (placed-lies file k n p, lies-placed file k n p);
+      expected = expected file;
       decodes = decoded file;
     }

@@ -1,10 +1,13 @@
 -- The table of worked examples holds: each row is computed from the definitions.
-use mathlib.Core.Path.{refl}
+use mathlib.Core.Path.{refl, _∙_}
+use native.Mathlib.Omega.{arith}
 use lib.Ieee.{add, mul, div, ofInt, ofBits, toBits}
 use Rattle.octets.specs.Numbers.{numberAt}
 use Rattle.bits.specs.Bits.{bitAt, bitsAt}
 use Rattle.calendar.specs.Calendar.{isLeap, monthLength, tomorrow, daysAfter}
 use Rattle.doubles.specs.Doubles.{valueOf}
+use Rattle.section_3_positions.specs.Positions.{Away}
+use Rattle.section_3_positions.proofs.Nearest.{away-of, away-once}
 use Rattle.section_7.specs.Packing.{valuesBefore, bitsBefore}
 use Rattle.values_integers.specs.Integers.{groupAmong, storedAt, integer}
 use Rattle.theorems_demands.specs.Examples.{Examples}
@@ -25,5 +28,9 @@ examples =
       aTenth = refl;
       afterEightyFourHours = refl;
       firstAndThird = refl;
-      column1421 = λ g first di. rw (first, di);
+      column1421 = λ g n p columns first last column l.
+          let away : Away 1422 43060606 1421 (l .east) = rw (column, columns, first, last) at (l .column) in
+          l .longitude ∙ rw (first, away-once {m = l .east} (omega arith) away away-of);
+      halfEast = λ g n p columns span column l. away-once (omega arith) (rw (column, columns, span) at (l .column)) away-of;
+      halfSouth = λ g n p rows span row l. away-once (omega arith) (rw (row, rows, span) at (l .row)) away-of;
     }

@@ -14,7 +14,8 @@ use Rattle.tiling.specs.Tiling.{check}
 use Rattle.theorems_grammar.specs.Grammar.{Accepted}
 use Rattle.section_3_geometry.specs.declared.Position.{Position}
 use Rattle.section_3_geometry.specs.Geometry.{pointsOf}
-use Rattle.section_3_positions.specs.Positions.{positionOf}
+use Rattle.section_3_positions.specs.Positions.{LiesAt}
+use Rattle.section_3_positions.specs.Expected.{AsExpected}
 use Rattle.doubles.specs.Doubles.{valueOf}
 use Rattle.question.specs.declared.Description.{Description}
 use Rattle.question.specs.declared.Described.the-variants as Described
@@ -94,9 +95,10 @@ pub record Demand2 (file : List ℕ) : Type 0 where
   pub describes : (k : ℕ) (d : Description) → (describe file k ≡ Described.As d) ↔ ((l : Located) × FieldAt file k l × Judged file l d)
   -- The cases of that description have the numbers that the sections' octets hold.
   pub numbers : (l : Located) (d : Description) → Judged file l d → InNumbers file l d
-  -- Point n lies where its row and its column put it.
+  -- Point n lies where its row and its column put it, evenly between the first point and the last; and so the points lie as a reader expects.
   pub places :
       (k n : ℕ) (p : Position) →
-      (place file k n ≡ Placed.At p) ↔ ((d : Description) × (describe file k ≡ Described.As d) × (n < pointsOf (d .grid)) × (positionOf (d .grid) n ≡ p))
+      (place file k n ≡ Placed.At p) ↔ ((d : Description) × (describe file k ≡ Described.As d) × (n < pointsOf (d .grid)) × LiesAt (d .grid) n p)
+  pub expected : (k : ℕ) (d : Description) → describe file k ≡ Described.As d → AsExpected (d .grid)
   -- A call of decode that answers with a count has decoded field k, whose points they are.
   pub decodes : (c : Call) (n : ℕ) → answerTo file c ≡ Decoded.Points n → (d : Description) × Decodes file c (leftBehind file c) d × (pointsOf (d .grid) ≡ n)

@@ -15,7 +15,9 @@ use Rattle.calendar.specs.declared.Later.the-variants as Later
 use Rattle.calendar.specs.Calendar.{date, plus}
 use Rattle.doubles.specs.Doubles.{valueOf}
 use Rattle.section_3_geometry.specs.declared.Grid.{Grid}
-use Rattle.section_3_positions.specs.Positions.{longitudeOf}
+use Rattle.section_3_geometry.specs.declared.Position.{Position}
+use Rattle.section_3_geometry.specs.Geometry.{spanEast, spanSouth}
+use Rattle.section_3_positions.specs.Positions.{columnOf, rowOf, LiesAt}
 use Rattle.section_6.specs.declared.Presence.the-variants as Presence
 use Rattle.section_6.specs.Presence.{bitmapLength, presentAt}
 use Rattle.section_5_groups.specs.declared.Grouping.{Grouping}
@@ -79,5 +81,10 @@ pub record Examples : Type 0 where
   pub afterEightyFourHours : plus (may 15 12) 84 Unit.Hour ≡ Later.At (may 19 0)
   -- Of four points, the bitmap 0xA0 has the first and the third.
   pub firstAndThird : examplePresent 0 ∷ examplePresent 1 ∷ examplePresent 2 ∷ examplePresent 3 ∷ [] ≡ 1 ∷ 0 ∷ 1 ∷ 0 ∷ []
-  -- On every grid that starts at 116.969697 degrees and goes on by 0.030303, column 1421 lies at 160.030260.
-  pub column1421 : (g : Grid) → g .first .longitude ≡ 116969697 → g .di ≡ 30303 → longitudeOf g 1421 ≡ 160030260
+  -- On every grid of 1,422 columns from 116.969697 to 160.030303 degrees, column 1421 lies at 160.030303.
+  pub column1421 :
+      (g : Grid) (n : ℕ) (p : Position) →
+      g .ni ≡ 1422 → g .first .longitude ≡ 116969697 → g .last .longitude ≡ 160030303 → columnOf g n ≡ 1421 → LiesAt g n p → p .longitude ≡ 160030303
+  -- In the middle of a span of one millionth of a degree, a half goes east, and a half goes south.
+  pub halfEast : (g : Grid) (n : ℕ) (p : Position) → g .ni ≡ 3 → spanEast g ≡ 1 → columnOf g n ≡ 1 → (l : LiesAt g n p) → l .east ≡ 1
+  pub halfSouth : (g : Grid) (n : ℕ) (p : Position) → g .nj ≡ 3 → spanSouth g ≡ 1 → rowOf g n ≡ 1 → (l : LiesAt g n p) → l .south ≡ 1

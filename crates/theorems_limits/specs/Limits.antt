@@ -6,7 +6,6 @@ use Prim.Native.Nat.{ℕ}
 use mathlib.Core.Bool.{true, false}
 use mathlib.Core.Path.{_≡_}
 use mathlib.Core.List.{List, [], _∷_, map}
-use Rattle.octets.specs.declared.Signed.{Signed}
 use Rattle.octets.specs.Places.{at}
 use Rattle.calendar.specs.declared.Time.{Time}
 use Rattle.calendar.specs.declared.Unit.the-variants as Unit
@@ -16,9 +15,9 @@ use Rattle.calendar.specs.Calendar.{plus, fourteenDigits, digitsOf}
 use Rattle.tiling_sections.specs.declared.Bitmap.the-variants as Bitmap
 use Rattle.section_1.specs.declared.Identified.the-variants as Identified
 use Rattle.section_1.specs.Identification.{identificationAt}
-use Rattle.section_3_geometry.specs.declared.Position.{Position}
 use Rattle.section_3_geometry.specs.declared.Grid.{Grid}
-use Rattle.section_3_positions.specs.Positions.{positionOf}
+use Rattle.section_3_geometry.specs.Geometry.{southOf}
+use Rattle.section_3_positions.specs.Positions.{longitudeAt, latitudeAt}
 use Rattle.section_3.specs.declared.Gridded.the-variants as Gridded
 use Rattle.section_3.specs.Section3.{gridAt}
 use Rattle.section_4.specs.declared.Level.{Level}
@@ -62,13 +61,6 @@ sampleGrid earth radius =
       di = 20000004;
       dj = 17000003;
     }
-
--- A grid of 2 x 3 points a millionth of a degree apart.
-abbrev tinyGrid : Position → Grid
-tinyGrid first = record { earth = 6; radius = 6371229; ni = 2; nj = 3; first = first; last = first; di = 1; dj = 1 }
-
-abbrev position : Signed → ℕ → Position
-position latitude longitude = record { latitude = latitude; longitude = longitude }
 
 -- Section 4's sample as it is read.
 abbrev sampleProduct : Time → Level → Declared.Product → Defined
@@ -185,11 +177,10 @@ pub record SectionLimits : Type 0 where
   pub steppedSouth : octets3 68 71 takes (17000002 ∷ 17000004 ∷ []) refuses (17000001 ∷ 17000005 ∷ [])
   pub wrapped : fromEast 340000000 takes (20000006 ∷ 20000010 ∷ []) refuses (20000005 ∷ 20000011 ∷ [])
   pub crossing : fromNorth 8500001 takes (minus4 8500001 ∷ minus4 8500003 ∷ []) refuses (minus4 8500000 ∷ minus4 8500004 ∷ [])
-  -- Where points lie: past the equator and past 360 degrees, and past the south pole.
-  pub places :
-      map (positionOf (tinyGrid (position (above 1) 359999999))) (0 ∷ 1 ∷ 2 ∷ 4 ∷ 5 ∷ [])
-      ≡ position (above 1) 359999999 ∷ position (above 1) 0 ∷ position (above 0) 359999999 ∷ position (below 1) 359999999 ∷ position (below 1) 0 ∷ []
-  pub pastThePole : positionOf (tinyGrid (position (below 90000000) 7)) 2 ≡ position (below 90000001) 7
+  -- Where points lie: past 360 degrees; and how far south of the north pole a latitude lies, down to the south pole, and back.
+  pub pastTheTurn : map longitudeAt (0 ∷ 359999999 ∷ 360000000 ∷ 719999998 ∷ []) ≡ 0 ∷ 359999999 ∷ 0 ∷ 359999998 ∷ []
+  pub fromThePole : map southOf (above 90000000 ∷ above 1 ∷ above 0 ∷ below 1 ∷ below 90000000 ∷ []) ≡ 0 ∷ 89999999 ∷ 90000000 ∷ 90000001 ∷ 180000000 ∷ []
+  pub toThePole : map latitudeAt (0 ∷ 89999999 ∷ 90000000 ∷ 90000001 ∷ 180000000 ∷ []) ≡ above 90000000 ∷ above 1 ∷ above 0 ∷ below 1 ∷ below 90000000 ∷ []
   -- Section 4: length and template, octets 6-7, the unit, the forecast, the first surface and the second.
   pub length4 : octets4 1 4 takes (34 ∷ []) refuses (33 ∷ 35 ∷ 58 ∷ [])
   pub length8 : octetsInterval 1 4 takes (58 ∷ []) refuses (34 ∷ 57 ∷ 59 ∷ [])

@@ -25,6 +25,12 @@ section-3-geometry-is-taken _ 𝓤 _ _ _ _ _ _ _ _ _ _ _ _ = one 𝓤 (λ p q. (
 pub section-3-geometry-south-of : Determined section-3-geometry.south_of.ended (λ _. section-3-geometry.south_of.clauses)
 section-3-geometry-south-of _ 𝓤 _ _ _ _ _ _ _ _ _ _ _ _ = one 𝓤 (λ p q. (alike p q, refl))
 
+pub section-3-geometry-span-east : Determined section-3-geometry.span_east.ended (λ _. section-3-geometry.span_east.clauses)
+section-3-geometry-span-east _ 𝓤 _ _ _ _ _ _ _ _ _ _ _ _ = one 𝓤 (λ p q. (alike p q, refl))
+
+pub section-3-geometry-span-south : Determined section-3-geometry.span_south.ended (λ _. section-3-geometry.span_south.clauses)
+section-3-geometry-span-south _ 𝓤 _ _ _ _ _ _ _ _ _ _ _ _ = one 𝓤 (λ p q. (alike p q, refl))
+
 pub section-3-geometry-points-of : Determined section-3-geometry.points_of.ended (λ _. section-3-geometry.points_of.clauses)
 section-3-geometry-points-of _ 𝓤 _ _ _ _ _ _ _ _ _ _ _ _ = one 𝓤 (λ p q. (alike p q, refl))
 

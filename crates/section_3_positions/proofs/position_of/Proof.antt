@@ -1,86 +1,107 @@
--- `section_3_positions::position_of` meets its contract: the remainder and the quotient by Ni are of 32 bits as the point is, so that all sums fit.
-use Prim.Native.Nat.{_+_, _*_, _/_, _%_, _^_, _≤_}
+-- `section_3_positions::position_of` meets its contract: each distance is the one that the definition works out, since there is one alone, and all sums fit.
+use mathlib.Core.Path.{_≡_, _∙_, ap}
+use Prim.Native.Nat.{ℕ, _%_, _/_, _≤_, _<_, _^_}
 use native.Mathlib.Nat.{mod-le, div-le-self}
 use native.Mathlib.Omega.{arith}
 use borrow.Author.Needs.{needs}
-use Rattle.section_3_geometry.proofs.Tests.{south-bound, product-bound}
+use Rattle.section_3_geometry.specs.Geometry.{spanEast, spanSouth}
+use Rattle.section_3_geometry.proofs.Tests.{cornered, south-bound, span-east-bound, span-south-bound}
+use Rattle.section_3_positions.specs.Quotients.{awayOf}
+use Rattle.section_3_positions.proofs.Nearest.{away-of, away-once, away-small}
 use Rattle.section_3_positions.proofs.position_of.Statement.{statement}
 use Rattle.section_3_positions.proofs.position_of.Tie as tie
 
-rem-i : tie.Need-rem-i
-rem-i c = search needs
+span-east-requires : tie.Need-span-east-requires
+span-east-requires c κs = search needs
 
-cast-i : tie.Need-cast-i
-cast-i c = omega (arith, mod-le (c .before .args .n) (c .before .args .grid .ni))
+rem-away : tie.Need-rem-away
+rem-away c = search needs
 
-div-j : tie.Need-div-j
-div-j c = search needs
+away-requires : tie.Need-away-requires
+away-requires c κs =
+    let start = c .before .before .before in
+    (start .pre .columns, omega (arith, c .before .span-east .ensures, span-east-bound (start .args .grid) (cornered (start .args .grid) (start .pre .corners))))
 
-cast-j : tie.Need-cast-j
-cast-j c = omega (arith, div-le-self (c .before .before .args .n) (c .before .before .args .grid .ni))
+span-south-requires : tie.Need-span-south-requires
+span-south-requires c κs = search needs
 
-south-of-requires : tie.Need-south-of-requires
-south-of-requires c κs = search needs
+div-away : tie.Need-div-away
+div-away c = search needs
 
-cast-south : tie.Need-cast-south
-cast-south c = search needs
+away-requires-2 : tie.Need-away-requires-2
+away-requires-2 c κs =
+    let start = c .before .before .before .before .before .before in
+    (start .pre .rows, omega (arith, c .before .span-south .ensures, span-south-bound (start .args .grid) (cornered (start .args .grid) (start .pre .corners))))
 
--- The way of so many steps, south and east, leaves room in 64 bits.
-south-fits : (c : tie.After-struct-known3) → let args = c .before .before .before .before .before .args in args .n / args .grid .ni * args .grid .dj + 2 ^ 33 ≤ 2 ^ 64 + 1
+-- The distances to the east and to the south, and that they leave room in 64 bits.
+east-is : (c : tie.After-away) → let args = c .before .before .before .before .args in c .away .result ≡ awayOf (args .grid .ni) (spanEast (args .grid)) (args .n % args .grid .ni)
+east-is c =
+    let start = c .before .before .before .before in
+    let args = start .args in
+    away-once (start .pre .columns) (c .away .ensures) away-of ∙ ap (λ (span : ℕ). awayOf (args .grid .ni) span (args .n % args .grid .ni)) (c .before .before .span-east .ensures)
+
+east-fits : (c : tie.After-away) → c .away .result ≤ 2 ^ 63
+east-fits c =
+    let start = c .before .before .before .before in
+    let span = c .before .before .span-east .result in
+    let short : span < 2 ^ 29 = omega (arith, c .before .before .span-east .ensures, span-east-bound (start .args .grid) (cornered (start .args .grid) (start .pre .corners))) in
+    away-small (start .pre .columns) (omega arith) short (omega (arith, mod-le (start .args .n) (start .args .grid .ni))) (c .away .ensures)
+
+south-is : (c : tie.After-away2) → let args = c .before .before .before .before .before .before .before .args in c .away2 .result ≡ awayOf (args .grid .nj) (spanSouth (args .grid)) (args .n / args .grid .ni)
+south-is c =
+    let start = c .before .before .before .before .before .before .before in
+    let args = start .args in
+    away-once (start .pre .rows) (c .away2 .ensures) away-of ∙ ap (λ (span : ℕ). awayOf (args .grid .nj) span (args .n / args .grid .ni)) (c .before .before .span-south .ensures)
+
+south-fits : (c : tie.After-away2) → c .away2 .result ≤ 2 ^ 63
 south-fits c =
-    let args = c .before .before .before .before .before .args in
-    product-bound (omega (arith, div-le-self (args .n) (args .grid .ni))) (omega arith)
-
-mul-south : tie.Need-mul-south
-mul-south c = omega (arith, south-fits c)
-
-add-south : tie.Need-add-south
-add-south c =
-    let start = c .before .before .before .before .before in
-    omega (arith, south-fits c, south-bound (start .args .grid .first .latitude) (start .pre .latitude))
+    let start = c .before .before .before .before .before .before .before in
+    let span = c .before .before .span-south .result in
+    let short : span < 2 ^ 29 = omega (arith, c .before .before .span-south .ensures, span-south-bound (start .args .grid) (cornered (start .args .grid) (start .pre .corners))) in
+    away-small (start .pre .rows) (omega arith) short (omega (arith, div-le-self (start .args .n) (start .args .grid .ni))) (c .away2 .ensures)
 
 cast-longitude : tie.Need-cast-longitude
 cast-longitude c = search needs
 
+add-longitude : tie.Need-add-longitude
+add-longitude c = omega (arith, east-fits (c .before .before .before .before))
+
 cast-longitude-2 : tie.Need-cast-longitude-2
 cast-longitude-2 c = search needs
 
-east-fits : (c : tie.After-struct-known5) → let args = c .before .before .before .before .before .before .before .args in args .n % args .grid .ni * args .grid .di + 2 ^ 33 ≤ 2 ^ 64 + 1
-east-fits c =
-    let args = c .before .before .before .before .before .before .before .args in
-    product-bound (omega (arith, mod-le (args .n) (args .grid .ni))) (omega arith)
+south-of-requires : tie.Need-south-of-requires
+south-of-requires c κs =
+    let start = c .before .before .before .before .before .before .before .before in
+    cornered (start .args .grid) (start .pre .corners) .first .latitude
 
-mul-longitude : tie.Need-mul-longitude
-mul-longitude c = omega (arith, east-fits c)
-
-add-longitude : tie.Need-add-longitude
-add-longitude c = omega (arith, east-fits c)
-
-cast-longitude-3 : tie.Need-cast-longitude-3
-cast-longitude-3 c = search needs
+add-latitude-at : tie.Need-add-latitude-at
+add-latitude-at c =
+    let start = c .before .before .before .before .before .before .before .before .before in
+    let south = south-bound (start .args .grid .first .latitude) (cornered (start .args .grid) (start .pre .corners) .first .latitude) in
+    omega (arith, c .south-of .ensures, south, south-fits (c .before .before))
 
 latitude-at-requires : tie.Need-latitude-at-requires
 latitude-at-requires c κs = search needs
 
 returns : tie.Need-returns
-returns c = rw (c .latitude-at .ensures, c .before .before .before .before .south-of .ensures)
+returns c =
+    let second = c .before .before .before in
+    rw (c .latitude-at .ensures, c .before .south-of .ensures, south-is second, east-is (second .before .before .before))
 
 pub position-of-spec : {M : Type 1} → statement M
 position-of-spec =
     tie.close
     (tie.spec
-    rem-i
-    cast-i
-    div-j
-    cast-j
-    south-of-requires
-    cast-south
-    mul-south
-    add-south
+    span-east-requires
+    rem-away
+    away-requires
+    span-south-requires
+    div-away
+    away-requires-2
     cast-longitude
-    cast-longitude-2
-    mul-longitude
     add-longitude
-    cast-longitude-3
+    cast-longitude-2
+    south-of-requires
+    add-latitude-at
     latitude-at-requires
     returns)
