@@ -88,6 +88,9 @@ MESSAGES = [
     'place' + NUMBERS_ANSWER,
     'place' + COUNT,
     'place' + NOT_OWN,
+    'place' + NUMBER,
+    'place' + NUMBER,
+    'place' + NUMBER,
 ]
 
 
@@ -220,7 +223,7 @@ def self_test(target):
     """Each fault alone, on the seeds in their order."""
     command = in_place() + [target, '-exact_artifact_path=' + os.devnull] + [os.path.join(SEEDS, name) for name in sorted(os.listdir(SEEDS))]
     failed = 0
-    for number, (what, words) in enumerate(zip(FAULTY, MESSAGES)):
+    for number, (what, words) in enumerate(zip(FAULTY, MESSAGES, strict=True)):
         given = dict(ENVIRONMENT, FAULT=str(number))
         done = subprocess.run(command, stdout=subprocess.DEVNULL, stderr=subprocess.PIPE, text=True, errors='replace', env=given)
         is_found = words in done.stderr and done.returncode != 0 if words else done.returncode == 0

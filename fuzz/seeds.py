@@ -1,7 +1,8 @@
 """python3 -m fuzz.seeds FOLDER: writes the small files that the fuzzer starts from, each behind the octets of a question (fuzz/question.h).
 
 They are the files of the other tests: samples, the rules' examples, a file for each error that we have met, what an earlier field decides,
-refusals 15 and 16, fields in both templates under each indicator, and fields of some hundred points.
+refusals 15 and 16, fields in both templates under each indicator, fields of some hundred points, and a grid whose columns and rows lie halfway between two
+millionths of a degree.
 """
 import os
 import random
@@ -41,7 +42,8 @@ def files():
     found += [('integers', decoding.small_file(decoding.one_group(*numbers)), 0) for numbers in groups]
     rng = random.Random(SEED)
     found += [('bitmap', file, number % 3) for number, file in enumerate(decoding.bitmaps(rng)[:BITMAPS])]
-    return found + [('long', file, k) for file, k in long_fields(rng)]
+    found += [('long', file, k) for file, k in long_fields(rng)]
+    return found + [('halfway', fields.blank(149, 3, last=(35999799, 135000149), di=1, dj=100), 0)]
 
 
 def points_of(file, k):

@@ -619,8 +619,7 @@ def lines_of_values(file, k):
     grid = reading.describe(file, k)['grid']
     lines = ['latitude longitude value']
     for n in range(points):
-        j, i = divmod(n, grid['ni'])
-        latitude, longitude = grid['first'][0] - j * grid['dj'], (grid['first'][1] + i * grid['di']) % reading.TURN
+        latitude, longitude = reading.position(grid, n)
         lines.append('%s %s %s' % (millionths(latitude), millionths(longitude), '%.17g' % doubles[n] if present[n] == '1' else 'missing'))
     return lines
 
@@ -628,7 +627,7 @@ def lines_of_values(file, k):
 def has_values(command):
     """values prints every point of every field: its exact latitude and longitude, and 17 digits of its value, from which the same double is read; or missing."""
     south = fields.blank(3, 4, first=(0, 359000000), last=(-90000000, 1000000), di=1000001, dj=30000001)
-    files = {**SAMPLES, 'grouped': grib.grouped(), 'three': EXAMPLE * 3, 'past the pole': south, 'a point': fields.blank(1, 1, first=(-1, 0))}
+    files = {**SAMPLES, 'grouped': grib.grouped(), 'three': EXAMPLE * 3, 'down to the pole': south, 'a point': fields.blank(1, 1, first=(-1, 0))}
     put_samples(command)
     asked = 0
     for name, octets in files.items():

@@ -35,9 +35,10 @@ def message_of(*parts):
     return grib.message(decoding.START, *parts)
 
 
-def one_field(ni, nj, packed, six=decoding.ALL, first=(47600000, 120000000), step=(1000, 1000)):
-    """The sections of a grid with one field: (section 5, section 7), a bitmap, the first point, and the steps to the east and to the south."""
-    last = first[0] - (nj - 1) * step[1], (first[1] + (ni - 1) * step[0]) % 360000000
+def one_field(ni, nj, packed, six=decoding.ALL, first=(47600000, 120000000), step=(1000, 1000), farther=(0, 0)):
+    """The sections of a grid with one field: (section 5, section 7), a bitmap, the first point, the steps to the east and to the south, and how much
+    farther east and south than the steps lead the last point lies."""
+    last = first[0] - (nj - 1) * step[1] - farther[1], (first[1] + (ni - 1) * step[0] + farther[0]) % 360000000
     return grib.section3(ni, nj, first, last, *step) + decoding.INSTANT + packed[0] + six + packed[1]
 
 
@@ -72,6 +73,28 @@ def grids():
     yield 600, 2, (47600105, 1), (1000, 5)
     yield 2, 3, (90000000, 1), (1000, 40000000)
     yield 2, 3, (-10000000, 1), (1000, 40000000)
+
+
+def uneven_grids():
+    """Grids whose last point does not lie where the steps lead: (columns, rows, first point, steps, how much farther it lies)."""
+    for farther in (-300, 300):
+        yield 301, 2, (10000000, 29999900), (2, 1000), (farther, 0)
+        yield 2, 301, (30000100, 10000000), (1000, 2), (0, farther)
+        yield 301, 301, (150, 359999850), (1, 1), (-farther, farther)
+        yield 301, 301, (89999950, 179999000), (7, 2), (farther, -farther)
+    # Half a step past the last point, and before the first, a round degree lies on the edge, or just behind it.
+    for farther in (-10, -1, 1, 10):
+        yield 11, 2, (10000000, 29989500), (1000, 1000), (farther, 0)
+        yield 11, 2, (10000000, 30000500), (1000, 1000), (farther, 0)
+        yield 2, 11, (30010500, 10000000), (1000, 1000), (0, farther)
+        yield 2, 11, (29999500, 10000000), (1000, 1000), (0, farther)
+    # A span of 0 where the steps are not, a span shorter than a millionth a point, and a span where the steps are 0.
+    yield 7, 2, (10000000, 5), (1, 1000), (-6, 0)
+    yield 2, 7, (5, 10000000), (1000, 1), (0, -6)
+    yield 601, 2, (10000000, 359999999), (1, 1000), (-599, 0)
+    yield 2, 601, (-60123455, 10000000), (1000, 1), (0, -599)
+    yield 301, 2, (10000000, 359999900), (0, 1000), (300, 0)
+    yield 2, 301, (100, 10000000), (1000, 0), (0, 300)
 
 
 def drawn_files():
@@ -138,7 +161,8 @@ class Field:
     last bit of a quotient decides."""
 
     def __init__(self, grid, lowest, highest, missing, colours, lines, unit, scale=None, outside=(0, 0)):
-        self.ni, self.nj, self.first, self.steps = grid['ni'], grid['nj'], grid['first'], (grid['di'], grid['dj'])
+        self.ni, self.nj, self.first, last = grid['ni'], grid['nj'], grid['first'], grid['last']
+        self.spans = (last[1] - self.first[1]) % TURN, self.first[0] - last[0]
         self.lowest, self.highest, self.missing, self.colours = lowest, highest, missing, colours
         self.lines, self.unit, self.asked, self.outside = lines, unit, scale is not None, outside
         self.scale = scale or (None if lowest is None else (lowest, highest))
@@ -200,8 +224,10 @@ def degrees(millionths, is_latitude):
     return '{:f}'.format((decimal.Decimal(abs(turned)) / DEGREE).normalize()) + '\x7f' + letter
 
 
-def ticks(is_latitude, first, step, count, side, dot):
+def ticks(is_latitude, first, span, count, side, dot):
     """The marks along a side: (pixels from its start, what is written there)."""
+    step = fractions.Fraction(span, max(count - 1, 1))
+
     def made(places):
         return [(side // 2 if offset == 0 else math.floor((fractions.Fraction(offset, step) + fractions.Fraction(1, 2)) * side), degrees(place, is_latitude)) for place, offset in places]
 
@@ -211,7 +237,7 @@ def ticks(is_latitude, first, step, count, side, dot):
         distance = size * side // step
         if distance * 8 < count * side:
             continue
-        low, high = (first - (count - 1) * step, first) if is_latitude else (first, first + (count - 1) * step)
+        low, high = (first - span, first) if is_latitude else (first, first + span)
         multiples = range(-(-(low - step // 2) // size) * size, high + step // 2 + 1, size)
         found = made([(place, first - place if is_latitude else place - first) for place in multiples if not is_latitude or abs(place) <= 90 * DEGREE])
         if distance >= dot * (LINE if is_latitude else GAP + max((width_of(text) for _, text in found), default=0)):
@@ -263,8 +289,8 @@ class Layout:
         self.side = min(max((512 + max(field.ni, field.nj) // 2) // max(field.ni, field.nj), 1), 64)
         self.field_width, self.field_height = field.ni * self.side, field.nj * self.side
         self.dot = dot = 2 * max(min(self.field_width, self.field_height) // 512, 1)
-        self.longitudes = ticks(False, field.first[1], field.steps[0], field.ni, self.side, dot)
-        self.latitudes = ticks(True, field.first[0], field.steps[1], field.nj, self.side, dot)
+        self.longitudes = ticks(False, field.first[1], field.spans[0], field.ni, self.side, dot)
+        self.latitudes = ticks(True, field.first[0], field.spans[1], field.nj, self.side, dot)
         self.labels = field.labels()
         beside = (max(width_of(text) for _, text in self.latitudes) + LABEL_GAP + TICK + MARGIN) * dot
         first, last = self.longitudes[0], self.longitudes[-1]
@@ -509,6 +535,19 @@ def every_pixel(draw):
             yield from faults_of_picture(draw, name, Field.read(file, k), said, k)
 
 
+def both_ends(draw):
+    """The marks lie where both ends of a grid place them, and move with its last point where the steps stay."""
+    for ni, nj, first, step, farther in uneven_grids():
+        name, pictures = '%d x %d points from %s on by %s, %s farther' % (ni, nj, first, step, farther), []
+        for much in ((0, 0), farther):
+            file = message_of(one_field(ni, nj, some(ni, nj), first=first, step=step, farther=much))
+            draw.put(file)
+            yield from faults_of_picture(draw, name, Field.read(file, 0), '1 message, 1 field')
+            pictures.append(draw.get())
+        if pictures[0] == pictures[1]:
+            yield '%s: no mark has moved' % name
+
+
 def shared_scale(draw):
     """With --range the scale is the one that is asked for, its ends say if values lie past them, and pictures of one grid have one size."""
     islands, sizes = make.samples()['islands.grib2'], set()
@@ -531,14 +570,18 @@ def shared_scale(draw):
             yield '%s: not taken' % words
 
 
+def default_grid(ni, nj):
+    """The grid that one_field makes when it is not told where."""
+    return {'ni': ni, 'nj': nj, 'first': (47600000, 120000000), 'last': (47600000 - (nj - 1) * 1000, 120000000 + (ni - 1) * 1000)}
+
+
 def field_of_octets(ni, nj):
     """A field of one octet a value, which large ones are quickly made of: its sections 5 and 7, and how it is to be drawn."""
     octets = (bytes(range(256)) * (ni * nj // 256 + 1))[:ni * nj]
     table = [colours_of(value, 0, 255) for value in range(256)]
     colours = [octets.translate(bytes(pair[i] for pair in table)) for i in (0, 1)]
     lines = ['temperature [K], ground or water surface', '2017-05-15 12:00 (UTC)', 'forecast from 2017-05-15 12:00 (UTC)']
-    grid = {'ni': ni, 'nj': nj, 'first': (47600000, 120000000), 'di': 1000, 'dj': 1000}
-    return (grib.section5(ni * nj, bytes(4), 0, 0, 8), grib.section(7, octets)), Field(grid, 0.0, 255.0, 0, colours, lines, 'in K')
+    return (grib.section5(ni * nj, bytes(4), 0, 0, 8), grib.section(7, octets)), Field(default_grid(ni, nj), 0.0, 255.0, 0, colours, lines, 'in K')
 
 
 def large_letters(draw):
@@ -580,7 +623,7 @@ def seldom_and_often(rng, ni, nj):
 def at_the_window(rng):
     """A picture of four rows that are noise, the last of which repeats the first, one octet further away than a repeat may reach."""
     def width(ni):
-        return Layout(Field({'ni': ni, 'nj': 4, 'first': (47600000, 120000000), 'di': 1000, 'dj': 1000}, 0, 251, 0, None, [], 'in K')).width
+        return Layout(Field(default_grid(ni, 4), 0, 251, 0, None, [], 'in K')).width
 
     ni = 10000 + 32769 // 3 - 1 - width(10000)
     rows = [b'\0\xfb' + bytes(rng.choices(range(252), k=ni - 2)) for _ in range(3)]
@@ -758,7 +801,7 @@ uint64_t skeptolyr_describe(const uint8_t *file, size_t file_len, size_t k, int6
     (void)file; (void)file_len; (void)numbers_len;
     field.discipline = 10; field.category = 200; field.parameter = 7; field.surface = 1;
     field.ni = field.nj = k == 2 ? 4096 : 2; field.points = field.ni * field.nj;
-    field.first.latitude = 1000000; field.di = field.dj = 1000000;
+    field.first.latitude = field.last.longitude = field.di = field.dj = 1000000;
     field.reference.year = field.valid.year = 2020; field.reference.month = field.valid.month = field.reference.day = field.valid.day = 1;
     memcpy(numbers, &field, sizeof field);
     return SKEPTOLYR_DESCRIPTION;
@@ -791,7 +834,8 @@ def with_stand_in(draw):
 def any_doubles(draw):
     """Any finite doubles are drawn, and where there is no memory for a field it exits with 3."""
     compiled = with_stand_in(draw)
-    lines, grid = ['parameter 10.200.7, ground or water surface', '2020-01-01 00:00 (UTC)', 'forecast from 2020-01-01 00:00 (UTC)'], {'ni': 2, 'nj': 2, 'first': (DEGREE, 0), 'di': DEGREE, 'dj': DEGREE}
+    lines = ['parameter 10.200.7, ground or water surface', '2020-01-01 00:00 (UTC)', 'forecast from 2020-01-01 00:00 (UTC)']
+    grid = {'ni': 2, 'nj': 2, 'first': (DEGREE, 0), 'last': (0, DEGREE)}
     for k, values in enumerate(EXTREMES):
         pairs = [colours_of(value, min(values), max(values)) for value in values]
         field = Field(grid, min(values), max(values), 0, [bytes(pair[i] for pair in pairs) for i in (0, 1)], lines, '')
@@ -854,7 +898,7 @@ def example_ends(draw):
             yield draw.ended(1, FILE, str(refusal.field), 'picture.ppm', says=says)
 
 
-TESTS = [letters, every_pixel, shared_scale, large_letters, the_largest, small_pictures, progress, misuse, refusals, elsewhere, cannot, any_doubles]
+TESTS = [letters, every_pixel, both_ends, shared_scale, large_letters, the_largest, small_pictures, progress, misuse, refusals, elsewhere, cannot, any_doubles]
 EXAMPLE_TESTS = [example_pixels, example_ends]
 
 

@@ -4,6 +4,7 @@
   python3 -m tests.evidence soak MINUTES [SEED]        go on with fresh seeds
   python3 -m tests.evidence repeat PART SEED NUMBER    one case again, as a failure says it
 """
+import array
 import concurrent.futures
 import os
 import platform
@@ -32,6 +33,10 @@ RUST = ['rustc', '--edition', '2021', '-C', 'overflow-checks=on']
 COMPILER = ['gcc', *archive.FLAGS, '-O2']
 LENDER = 'tests/help/lend.c'
 VECTORS = os.path.join(TOP, 'tests', 'evidence', 'vectors.rattle')
+# All grids of the Agency's paper on the seas: those of heights and temperatures, and those of currents, which lie between them.
+SEAS = [
+    fields.AROUND_JAPAN, fields.Grid(1423, 1604, (52030000, 116954545), (19970000, 160045455), 30303, 20000),
+    fields.NORTH_PACIFIC, fields.Grid(2049, 633, (63150000, 98863636), (-50000, 285045455), 90909, 100000)]
 
 
 def say(what):
@@ -181,15 +186,33 @@ def samples_listed(listing):
     return different == 0
 
 
+def off_by(degrees, millionths):
+    """How far numbers in degrees are from numbers in millionths of a degree, at most."""
+    return max(abs(1e6 * one - other) for one, other in zip(degrees, millionths, strict=True))
+
+
+def seas_lie_alike():
+    """Does the archive put every column and every row of the seas where ecCodes does, to the half millionth that it rounds by?"""
+    reader, lender, most = built('places', *COMPILER, 'tests/peers/places.c', '-leccodes'), archive.program('skeptolyr', LENDER), 0
+    for grid in SEAS:
+        found = array.array('d', subprocess.run([reader], input=fields.file_on(grid), stdout=subprocess.PIPE, check=True).stdout)
+        latitudes, longitudes = found[:grid.ni * grid.nj], found[grid.ni * grid.nj:]
+        columns = fields.places_of(lender, [(grid, i) for i in range(grid.ni)])
+        rows = fields.places_of(lender, [(grid, j * grid.ni) for j in range(grid.nj)])
+        most = max(most, off_by(longitudes[:grid.ni], [east for _, east in columns]), off_by(latitudes[::grid.ni], [north for north, _ in rows]))
+    print('%d grids of the seas as ecCodes places them: at most %.3f millionths of a degree apart' % (len(SEAS), most), flush=True)
+    return most < 0.501
+
+
 def eccodes(program):
-    """Valid files as ecCodes reads them. Where it cannot be had, that is told as skipped."""
+    """Valid files as ecCodes reads them, and the places of the seas. Where it cannot be had, that is told as skipped."""
     if not debian.has_header('eccodes.h'):
         debian.install(['libeccodes-dev'])
     if not debian.has_header('eccodes.h'):
         print(report.Skipped('valid files as ecCodes reads them', "Debian's package libeccodes-dev could not be installed"))
         return []
     reader = built('eccodes', *COMPILER, 'tests/peers/eccodes.c', '-leccodes')
-    return [asked(program, 'eccodes', SEED, VALID_FILES, '--', reader)]
+    return [asked(program, 'eccodes', SEED, VALID_FILES, '--', reader), seas_lie_alike()]
 
 
 def whole():

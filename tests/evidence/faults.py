@@ -2,6 +2,8 @@
 
 DESCRIBED, PLACED = 'put_numbers(&describe(file, k)?.numbers(), numbers)', 'let (latitude, longitude) = place(file, k, n)?;'
 PUT = 'run[..numbers.len()].copy_from_slice(numbers);'
+SPAN_EAST, SPAN_SOUTH = 'span_east(self.first, self.last)', 'self.first.latitude - self.last.latitude'
+EAST, SOUTH = 'distance(%s, column, self.ni)' % SPAN_EAST, 'distance(%s, row, self.nj)' % SPAN_SOUTH
 # Refuses a run that has no room for so many numbers.
 NO_ROOM = 'if %s.len() < %d {\n        return Err(Refusal::without_place(15));\n    }\n    '
 
@@ -91,8 +93,15 @@ FAULTS = [
     ('a missing point gets -0', 'lib.rs', 'map_or(0.0,', 'map_or(-0.0,'),
     ('N answers in place of the point count', 'lib.rs', 'Ok(field.presence.points as u32)', 'Ok(field.description.n)'),
     ('a point behind the last has a place', 'lib.rs', 'n >= grid.points()', 'n > grid.points()'),
-    ('a longitude is not brought below 360 degrees', 'description.rs', ' % 360_000_000;', ';'),
-    ('rows go north', 'description.rs', 'i128::from(self.first.latitude) - i128::from(row)', 'i128::from(self.first.latitude) + i128::from(row)'),
+    ('a longitude is not brought below 360 degrees', 'description.rs', ' % FULL_TURN;', ';'),
+    ('longitudes go by steps of Di', 'description.rs', EAST, '(column * u64::from(self.di)) as i64'),
+    ('longitudes are rounded down', 'description.rs', EAST, SPAN_EAST + ' * column as i64 / i64::from(self.ni - 1).max(1)'),
+    ('longitudes are worked out from the last column, and halves go west', 'description.rs', EAST,
+     SPAN_EAST + ' - ' + EAST.replace('column', 'u64::from(self.ni - 1) - column')),
+    ('the span east is divided by Ni', 'description.rs', EAST, EAST.replace('self.ni', 'self.ni + 1')),
+    ('latitudes are worked out from the last row, and halves go north', 'description.rs', SOUTH,
+     SPAN_SOUTH + ' - ' + SOUTH.replace('row', 'u64::from(self.nj - 1) - row')),
+    ('rows go north', 'description.rs', 'self.first.latitude - south', 'self.first.latitude + south'),
     # ---- what C is given
     ('latitudes are told by their sizes', 'description.rs', '[self.latitude, i64::from(self.longitude)]', '[self.latitude.abs(), i64::from(self.longitude)]'),
     ('N is told as the point count', 'description.rs', 'numbers.extend([i64::from(self.n),', 'numbers.extend([self.grid.points() as i64,'),

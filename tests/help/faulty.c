@@ -34,11 +34,16 @@ enum {
     DESCRIBE_WRITES_BESIDE, DESCRIBE_ROOM_FIRST, DESCRIBE_PUTS_WHAT_FITS, DESCRIBE_WRITES_AND_REFUSES,
     /* of place */
     PLACES_POINT_0, PLACE_SWAPPED, LATITUDE_SIGN_LOST, PLACES_BEHIND_LAST, PLACE_WRITES_BEHIND, PLACE_WRITES_BESIDE, PLACE_ROOM_FIRST, PLACE_ROOM_BEFORE_POINT,
-    PLACE_PUTS_WHAT_FITS, PLACE_WRITES_AND_REFUSES
+    PLACE_PUTS_WHAT_FITS, PLACE_WRITES_AND_REFUSES, LONGITUDE_BY_STEPS, LONGITUDE_ROUNDED_DOWN, HALF_NORTHWARD
 };
 
 /* Where numbers of a description stand. */
-enum { NI = 10, NJ = 11, FACTOR = 24, SCALED = 25, START_OF_7 = 52 };
+enum {
+    NI = 10, NJ = 11, FIRST_LATITUDE = 13, FIRST_LONGITUDE = 14, LAST_LATITUDE = 15, LAST_LONGITUDE = 16, DI = 17, FACTOR = 24, SCALED = 25, START_OF_7 = 52
+};
+
+/* All the way round the earth, in millionths of a degree. */
+enum { TURN = 360000000 };
 
 static int fault(void)
 {
@@ -234,6 +239,42 @@ uint64_t faulty_describe(const uint8_t *file, size_t file_len, size_t k, int64_t
     return answer + (fault() == DESCRIBE_ANSWERS_MORE);
 }
 
+/* The longitude of a column by the steps of section 3, or by both ends and rounded down. */
+static int64_t other_longitude(const int64_t *numbers, int64_t column)
+{
+    int64_t gaps = numbers[NI] - 1, span = (numbers[LAST_LONGITUDE] - numbers[FIRST_LONGITUDE] + TURN) % TURN;
+    int64_t east = fault() == LONGITUDE_BY_STEPS ? column * numbers[DI] : gaps ? column * span / gaps : 0;
+    return (numbers[FIRST_LONGITUDE] + east) % TURN;
+}
+
+/* The latitude of a row by both ends, where a half of the distance goes northward. */
+static int64_t other_latitude(const int64_t *numbers, int64_t row)
+{
+    int64_t gaps = numbers[NJ] - 1, span = numbers[FIRST_LATITUDE] - numbers[LAST_LATITUDE];
+    return numbers[FIRST_LATITUDE] - (gaps ? (2 * row * span + gaps - 1) / (2 * gaps) : 0);
+}
+
+static void change_position(const uint8_t *file, size_t file_len, size_t k, size_t n, int64_t *position)
+{
+    int64_t own[SKEPTOLYR_DESCRIPTION];
+    skeptolyr_describe(file, file_len, k, own, SKEPTOLYR_DESCRIPTION);
+    switch (fault()) {
+    case PLACE_SWAPPED:
+        swap(position, position + 1);
+        break;
+    case LATITUDE_SIGN_LOST:
+        position[0] = position[0] < 0 ? -position[0] : position[0];
+        break;
+    case LONGITUDE_BY_STEPS:
+    case LONGITUDE_ROUNDED_DOWN:
+        position[1] = other_longitude(own, (int64_t)n % own[NI]);
+        break;
+    case HALF_NORTHWARD:
+        position[0] = other_latitude(own, (int64_t)n / own[NI]);
+        break;
+    }
+}
+
 /* What a refused call to place comes to. */
 static uint64_t place_refused(uint64_t answer, const uint8_t *file, size_t file_len, size_t k, size_t n, int64_t *position, size_t position_len)
 {
@@ -258,10 +299,7 @@ uint64_t faulty_place(const uint8_t *file, size_t file_len, size_t k, size_t n, 
     uint64_t answer = skeptolyr_place(file, file_len, k, fault() == PLACES_POINT_0 ? 0 : n, position, position_len);
     if (skeptolyr_is_refusal(answer))
         return place_refused(answer, file, file_len, k, n, position, position_len);
-    if (fault() == PLACE_SWAPPED)
-        swap(position, position + 1);
-    if (fault() == LATITUDE_SIGN_LOST && position[0] < 0)
-        position[0] = -position[0];
+    change_position(file, file_len, k, n, position);
     write_more(position, position_len, SKEPTOLYR_POSITION, fault() == PLACE_WRITES_BEHIND, fault() == PLACE_WRITES_BESIDE);
     return answer;
 }

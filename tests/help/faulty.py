@@ -50,6 +50,9 @@ FAULTS = [
     'place refuses a short run before a point that is not there',
     'place puts as many numbers as there is room for',
     'place writes and refuses',
+    'a longitude is worked out by steps',
+    'a longitude is rounded down',
+    'a latitude halfway between two millionths goes northward',
 ]
 # The numbers of the faults of describe and place.
 OF_NUMBERS = range(FAULTS.index('describe gives field 0 for every field'), len(FAULTS))

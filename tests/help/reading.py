@@ -1,7 +1,9 @@
 """An independent reading of docs/RULES.md, from its paragraphs: check, describe, decode and place, in Python's own whole numbers, times and
 doubles; and the rows of numbers that C is given of a description and of a place."""
 import datetime
+import fractions
 import functools
+import math
 import struct
 
 LARGEST = 268435456
@@ -138,6 +140,11 @@ def identification(file, stretch):
     return {'status': s(20), 'reference': s.time(13)}
 
 
+def span_east(first, last):
+    """How far the last longitude lies east of the first. Equal longitudes are no full turn."""
+    return last[1] - first[1] + (TURN if last[1] < first[1] else 0)
+
+
 def grid(file, stretch):
     s = Octets(file, stretch, 10)
     s.demand(len(s) == 72 and s(6) == s(11) == s(12) == s(13, 14) == 0)
@@ -150,8 +157,7 @@ def grid(file, stretch):
         s.demand(abs(latitude) <= 90000000 and longitude < TURN)
     s.demand(first[0] >= last[0])
     di, dj = s(64, 67), s(68, 71)
-    east = last[1] - first[1] + (TURN if last[1] < first[1] else 0)
-    s.demand(abs(east - (ni - 1) * di) <= ni - 1 and abs(first[0] - last[0] - (nj - 1) * dj) <= nj - 1)
+    s.demand(abs(span_east(first, last) - (ni - 1) * di) <= ni - 1 and abs(first[0] - last[0] - (nj - 1) * dj) <= nj - 1)
     return {'earth': s(15), 'radius': 6371229 if s(15) == 6 else s(17, 20), 'ni': ni, 'nj': nj, 'first': first, 'last': last, 'di': di, 'dj': dj}
 
 
@@ -293,13 +299,27 @@ def decode(file, k, start, values_length, presence_length):
     return points, present, xs, [next(following) if bit == '1' else 0.0 for bit in present]
 
 
+def distance(number, lines, span):
+    """How far a column or a row lies from the first one, where so many of them divide a span evenly: the nearest whole number, and a half goes up. One line
+    alone is the first."""
+    if lines == 1:
+        return 0
+    return math.floor(fractions.Fraction(number * span, lines - 1) + fractions.Fraction(1, 2))
+
+
+def position(g, n):
+    """The latitude and the longitude of point n of a grid, in millionths of a degree. Both ends count, and the steps do not."""
+    j, i = divmod(n, g['ni'])
+    first, last = g['first'], g['last']
+    return first[0] - distance(j, g['nj'], first[0] - last[0]), (first[1] + distance(i, g['ni'], span_east(first, last))) % TURN
+
+
 def place(file, k, n):
-    """The latitude and the longitude of point n, in millionths of a degree."""
+    """The latitude and the longitude of point n of field k."""
     g = describe(file, k)['grid']
     if n >= g['ni'] * g['nj']:
         raise Refused(17, 0)
-    j, i = divmod(n, g['ni'])
-    return g['first'][0] - j * g['dj'], (g['first'][1] + i * g['di']) % TURN
+    return position(g, n)
 
 
 # ---- what C is given

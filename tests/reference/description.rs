@@ -2,7 +2,7 @@
 
 use crate::calendar::Time;
 use crate::packing::Representation;
-use crate::sections::{Identification, ProductDefinition};
+use crate::sections::{span_east, Identification, ProductDefinition, FULL_TURN};
 use crate::tiling::Field;
 
 /// A corner of the grid, in millionths of a degree.
@@ -43,13 +43,26 @@ impl Grid {
         [&sizes[..], &self.first.numbers(), &self.last.numbers(), &steps].concat()
     }
 
-    /// The latitude and longitude of a point below the point count.
+    /// The latitude and longitude of a point below the point count. Both are worked out from the first point and the last, not from Di and Dj.
     pub fn place(&self, n: u64) -> (i64, u32) {
         let (column, row) = (n % u64::from(self.ni), n / u64::from(self.ni));
-        let latitude = i128::from(self.first.latitude) - i128::from(row) * i128::from(self.dj);
-        let longitude = (u128::from(self.first.longitude) + u128::from(column) * u128::from(self.di)) % 360_000_000;
-        (latitude as i64, longitude as u32)
+        let south = distance(self.first.latitude - self.last.latitude, row, self.nj);
+        let east = distance(span_east(self.first, self.last), column, self.ni);
+        let longitude = (i64::from(self.first.longitude) + east) % FULL_TURN;
+        (self.first.latitude - south, longitude as u32)
     }
+}
+
+/// How far the row or column of an index lies from the first, where so many divide a span evenly: the nearest whole number, halves up.
+fn distance(span: i64, index: u64, count: u32) -> i64 {
+    if count == 1 {
+        return 0;
+    }
+    let steps = i128::from(count) - 1;
+    let shares = i128::from(index) * i128::from(span);
+    let (whole, rest) = (shares / steps, shares % steps);
+    let nearest = if 2 * rest >= steps { whole + 1 } else { whole };
+    nearest as i64
 }
 
 /// A level: the scaled level divided by ten to the factor.

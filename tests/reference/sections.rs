@@ -7,7 +7,7 @@ use crate::octets::{require, Section};
 const ALL_ONES_IN_4_OCTETS: u64 = 0xFFFF_FFFF;
 const LARGEST_31_BITS: u64 = 2_147_483_647;
 const MOST_POINTS: u64 = 16_777_216;
-const FULL_TURN: i64 = 360_000_000;
+pub const FULL_TURN: i64 = 360_000_000;
 const RADIUS_OF_EARTH_CODE_6: u64 = 6_371_229;
 
 /// What section 1 tells.
@@ -69,7 +69,8 @@ fn grid_point(section: Section<'_>, octet: usize) -> Option<GridPoint> {
     Some(GridPoint { latitude, longitude: longitude as u32 })
 }
 
-fn span_east(first: GridPoint, last: GridPoint) -> i64 {
+/// How far the last longitude lies east of the first.
+pub fn span_east(first: GridPoint, last: GridPoint) -> i64 {
     let difference = i64::from(last.longitude) - i64::from(first.longitude);
     if difference < 0 {
         difference + FULL_TURN

@@ -382,24 +382,108 @@ fn example_valid_time() {
     assert_eq!(told.map(|description| description.valid_time), Ok(expected));
 }
 
+/// The same grid with another last point.
+fn ending_at(last: (i64, u32), grid: StatedGrid) -> StatedGrid {
+    StatedGrid { last, ..grid }
+}
+
+/// The longitudes of the points in the first row.
+fn longitudes(grid: StatedGrid) -> Vec<u32> {
+    let file = OneField::on_grid(grid).file();
+    (0..grid.ni).map(|column| place(&file, 0, u64::from(column)).expect("a point of the grid").1).collect()
+}
+
+/// The latitudes of the points in the first column.
+fn latitudes(grid: StatedGrid) -> Vec<i64> {
+    let file = OneField::on_grid(grid).file();
+    (0..grid.nj).map(|row| place(&file, 0, u64::from(grid.ni * row)).expect("a point of the grid").0).collect()
+}
+
 #[test]
 fn example_place() {
-    let file = OneField::on_grid(stated_grid(1422, 2, (36_000_000, 116_969_697), 30_303, 25_253)).file();
-    assert_eq!(place(&file, 0, 1421), Ok((36_000_000, 160_030_260)));
+    let grid = ending_at((35_974_747, 160_030_303), stated_grid(1422, 2, (36_000_000, 116_969_697), 30_303, 25_253));
+    let file = OneField::on_grid(grid).file();
+    assert_eq!(place(&file, 0, 1), Ok((36_000_000, 117_000_000)));
+    assert_eq!(place(&file, 0, 16), Ok((36_000_000, 117_454_545)));
+    assert_eq!(place(&file, 0, 17), Ok((36_000_000, 117_484_849)));
+    assert_eq!(place(&file, 0, 1421), Ok((36_000_000, 160_030_303)));
     assert_eq!(place(&file, 0, 1422), Ok((35_974_747, 116_969_697)));
-    assert_eq!(place(&file, 0, 2843), Ok((35_974_747, 160_030_260)));
+    assert_eq!(place(&file, 0, 2843), Ok((35_974_747, 160_030_303)));
     assert_eq!(place(&file, 0, 2844), Err(refused(17, 0)));
     assert_eq!(place(&file, 0, u64::MAX), Err(refused(17, 0)));
 }
 
 #[test]
-fn places_turn_past_the_zero_meridian_and_may_pass_the_last_latitude() {
-    let mut grid = stated_grid(3, 3, (-89_999_000, 359_999_000), 1000, 500);
-    let file = OneField::on_grid(grid).file();
-    assert_eq!(place(&file, 0, 1), Ok((-89_999_000, 0)));
-    assert_eq!(place(&file, 0, 2), Ok((-89_999_000, 1000)));
-    grid.dj = 501;
-    assert_eq!(place(&OneField::on_grid(grid).file(), 0, 6), Ok((-90_000_002, 359_999_000)));
+fn places_turn_past_the_zero_meridian() {
+    assert_eq!(longitudes(stated_grid(3, 1, (0, 359_999_000), 1000, 0)), [359_999_000, 0, 1000]);
+    assert_eq!(longitudes(ending_at((0, 1), stated_grid(3, 1, (0, 359_999_998), 1, 0))), [359_999_998, 0, 1]);
+    assert_eq!(longitudes(ending_at((0, 0), stated_grid(3, 1, (0, 1), 179_999_999, 0))), [1, 180_000_001, 0]);
+}
+
+#[test]
+fn both_ends_are_reached_where_steps_are_off() {
+    let grid = stated_grid(3, 4, (10_000_000, 10_000_000), 1000, 2000);
+    let short = ending_at((9_994_003, 10_001_998), grid);
+    assert_eq!(longitudes(short), [10_000_000, 10_000_999, 10_001_998]);
+    assert_eq!(latitudes(short), [10_000_000, 9_998_001, 9_996_002, 9_994_003]);
+    let long = ending_at((9_993_997, 10_002_002), grid);
+    assert_eq!(longitudes(long), [10_000_000, 10_001_001, 10_002_002]);
+    assert_eq!(latitudes(long), [10_000_000, 9_997_999, 9_995_998, 9_993_997]);
+    assert_eq!(latitudes(ending_at((-90_000_000, 0), stated_grid(1, 3, (-89_999_000, 0), 0, 501))), [-89_999_000, -89_999_500, -90_000_000]);
+}
+
+#[test]
+fn halves_go_east_and_south() {
+    let between = |first: i64, last: i64| ending_at((last, 7_002_001), stated_grid(3, 3, (first, 7_000_000), 1000, 500));
+    assert_eq!(longitudes(between(0, -1001)), [7_000_000, 7_001_001, 7_002_001]);
+    assert_eq!(latitudes(between(10_000_000, 9_998_999)), [10_000_000, 9_999_499, 9_998_999]);
+    assert_eq!(latitudes(between(-10_000_000, -10_001_001)), [-10_000_000, -10_000_501, -10_001_001]);
+    assert_eq!(latitudes(between(500, -501)), [500, -1, -501]);
+    let quarters = ending_at((-2, 2), flat_grid(5, 5));
+    assert_eq!(longitudes(quarters), [0, 1, 1, 2, 2]);
+    assert_eq!(latitudes(quarters), [0, -1, -1, -2, -2]);
+}
+
+#[test]
+fn thirds_go_to_the_nearest() {
+    assert_eq!(longitudes(ending_at((-1, 1), flat_grid(4, 4))), [0, 0, 1, 1]);
+    assert_eq!(latitudes(ending_at((-1, 1), flat_grid(4, 4))), [0, 0, -1, -1]);
+    assert_eq!(longitudes(ending_at((-2, 2), flat_grid(4, 4))), [0, 1, 1, 2]);
+    assert_eq!(latitudes(ending_at((-2, 2), flat_grid(4, 4))), [0, -1, -1, -2]);
+}
+
+#[test]
+fn places_of_one_column_or_one_row() {
+    let first = (-7, 359_999_999);
+    let point = stated_grid(1, 1, first, u32::MAX, u32::MAX);
+    assert_eq!((latitudes(point), longitudes(point)), (vec![-7], vec![359_999_999]));
+    let column = ending_at((-10, 359_999_999), stated_grid(1, 3, first, u32::MAX, 2));
+    assert_eq!((latitudes(column), longitudes(column)), (vec![-7, -9, -10], vec![359_999_999]));
+    let row = ending_at((-7, 2), stated_grid(3, 1, first, 2, u32::MAX));
+    assert_eq!((latitudes(row), longitudes(row)), (vec![-7], vec![359_999_999, 1, 2]));
+}
+
+#[test]
+fn places_of_the_most_columns_and_rows() {
+    let wide = OneField::on_grid(ending_at((0, 0), stated_grid(65_535, 1, (0, 1), 5493, 0))).file();
+    for (column, longitude) in [(0, 1), (1, 5494), (32_767, 180_000_001), (65_533, 359_994_507), (65_534, 0)] {
+        assert_eq!(place(&wide, 0, column), Ok((0, longitude)), "column {}", column);
+    }
+    let high = OneField::on_grid(ending_at((-90_000_000, 0), stated_grid(1, 65_535, (90_000_000, 0), 0, 2747))).file();
+    for (row, latitude) in [(0, 90_000_000), (1, 89_997_253), (32_767, 0), (65_533, -89_997_253), (65_534, -90_000_000)] {
+        assert_eq!(place(&high, 0, row), Ok((latitude, 0)), "row {}", row);
+    }
+}
+
+#[test]
+fn places_never_step_back_or_pass_the_last() {
+    for span in 0..=40 {
+        let grid = ending_at((-i64::from(span), span), stated_grid(9, 9, (0, 0), span / 8, span / 8));
+        let (longitudes, latitudes) = (longitudes(grid), latitudes(grid));
+        assert!(longitudes.windows(2).all(|pair| pair[0] <= pair[1]), "{:?}", longitudes);
+        assert!(latitudes.windows(2).all(|pair| pair[0] >= pair[1]), "{:?}", latitudes);
+        assert_eq!((longitudes[0], longitudes[8], latitudes[0], latitudes[8]), (0, span, 0, -i64::from(span)));
+    }
 }
 
 #[test]

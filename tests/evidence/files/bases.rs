@@ -60,9 +60,10 @@ fn groups_under_a_bitmap() -> Vec<u8> {
     file(&[&[dated(time(2016, 2, 29, 18)), grid.octets()], &field])
 }
 
-/// First value, second value and Zmin in four octets each, at their limits; widths of 31 bits and of none.
+/// First value, second value and Zmin in four octets each, at their limits; widths of 31 bits and of none. The span of the five rows is no
+/// multiple of four.
 fn four_octets() -> Vec<u8> {
-    let (first, last) = (Point::at(POLE, 0), Point::at(-POLE, 0));
+    let (first, last) = (Point::at(POLE - 3, 0), Point::at(-POLE, 0));
     let grid = Section3 { ni: 1, nj: 5, first, last, di: 0xffff_ffff, dj: 45_000_000, ..Section3::default() };
     let plan =
         Groups { count: 2, width_bits: 5, length_reference: 4, length_increment: 0, last_length: 1, length_bits: 1, extra_octets: 4, ..Groups::default() };
@@ -93,9 +94,10 @@ fn two_messages() -> Vec<u8> {
     messages.concat()
 }
 
-/// Two grids in one message: a bitmap and then 254 on the first, a bitmap of another length on the second.
+/// Two grids in one message: a bitmap and then 254 on the first, a bitmap of another length on the second. The span of the
+/// second's nine columns is no multiple of eight.
 fn two_grids() -> Vec<u8> {
-    let wide = Section3 { ni: 9, nj: 1, last: Point::at(36_000_000, 143_000_000), ..Section3::default() };
+    let wide = Section3 { ni: 9, nj: 1, last: Point::at(36_000_000, 143_000_005), ..Section3::default() };
     let section4 = || Section4::default().octets();
     let scaling = Scaling::of(0.0, 0, 0);
     let first = [section4(), simple(3, scaling, 3), section6(0, &[0x70]), section7(&[1, 2, 7], 3, 0)];

@@ -27,8 +27,8 @@ fn file(section1: Section1, section3: Section3, fields: Vec<Vec<u8>>) -> Vec<u8>
     Message::of([vec![section1.octets(), section3.octets()], fields].concat()).octets()
 }
 
-/// A grid at or past a limit of latitudes, longitudes, the tolerance or the radius, and a field of no bits on it. One is so wide that its last
-/// column lies two turns from longitude 0.
+/// A grid at or past a limit of latitudes, longitudes, the tolerance or the radius, and a field of no bits on it. One is so wide that its steps
+/// come to more than a full turn.
 pub fn grid(random: &mut Random) -> Vec<u8> {
     let steps = random.between(1, 5) as u32;
     let (latitude, longitude) = *random.choose(&[(90_000_001, 0), (-90_000_001, 0), (0, 360_000_000)]);
