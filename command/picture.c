@@ -82,12 +82,27 @@ struct ruler {
     struct tick ticks[MOST_TICKS];
 };
 
-/* A side of the field: the coordinate of its first point, the step from point to point, both in millionths of a degree, the points, and the pixels of each. */
+/* A side of the field: the coordinate of its first point, the span from there to its last, both in millionths of a degree, the points, and the pixels of
+ * each. The step from point to point need not be a whole number. */
 struct side {
     int is_latitude;
-    int64_t first, step, points;
+    int64_t first, span, points;
     size_t pixels;
 };
+
+static struct side south_side(const struct skeptolyr_field *field, size_t pixels)
+{
+    struct side side = {1, field->first.latitude, field->first.latitude - field->last.latitude, field->nj, pixels};
+    return side;
+}
+
+/* A field over the zero meridian has the smaller longitude last. */
+static struct side east_side(const struct skeptolyr_field *field, size_t pixels)
+{
+    int64_t span = field->last.longitude - field->first.longitude;
+    struct side side = {0, field->first.longitude, span < 0 ? span + TURN : span, field->ni, pixels};
+    return side;
+}
 
 /* Degrees with no more decimals than they need. East of 180 degrees they are counted to the west. */
 static void write_degrees(int64_t millionths, int is_latitude, char *text)
@@ -110,7 +125,7 @@ static void add_tick(struct ruler *ruler, const struct side *side, int64_t coord
     /* A point lies in the middle of its pixels. */
     tick->at = side->pixels / 2;
     if (from_first != 0)
-        tick->at = (size_t)((2 * from_first + side->step) * pixels / (2 * side->step));
+        tick->at = (size_t)((2 * from_first * (side->points - 1) + side->span) * pixels / (2 * side->span));
     write_degrees(coordinate, side->is_latitude, tick->text);
 }
 
@@ -123,8 +138,8 @@ static int64_t smaller_number(int64_t a, int64_t b)
 static struct ruler rule(const struct side *side, int64_t round)
 {
     struct ruler ruler = {0, {{0, ""}}};
-    int64_t half = side->step / 2, length = (side->points - 1) * side->step, low = side->is_latitude ? side->first - length : side->first;
-    int64_t from = low - half, to = low + length + half;
+    int64_t half = side->span / (2 * (side->points - 1)), low = side->is_latitude ? side->first - side->span : side->first;
+    int64_t from = low - half, to = low + side->span + half;
     if (side->is_latitude) {
         from = -smaller_number(-from, POLE);
         to = smaller_number(to, POLE);
@@ -169,9 +184,9 @@ static struct ruler make_ruler(const struct side *side, size_t dot)
                                      5 * DEGREE, 10 * DEGREE, 20 * DEGREE, 30 * DEGREE, 45 * DEGREE, 90 * DEGREE, 180 * DEGREE};
     enum { ROUNDS = sizeof rounds / sizeof *rounds, MOST_SPACES = 8 };
     struct ruler ruler = {0, {{0, ""}}};
-    int can_be_ruled = side->points > 1 && side->step > 0;
+    int can_be_ruled = side->points > 1 && side->span > 0;
     for (size_t i = 0; i < ROUNDS && can_be_ruled; i++) {
-        size_t distance = (size_t)(rounds[i] * (int64_t)side->pixels / side->step);
+        size_t distance = (size_t)(rounds[i] * (side->points - 1) * (int64_t)side->pixels / side->span);
         if (distance * MOST_SPACES < (size_t)side->points * side->pixels)
             continue;
         ruler = rule(side, rounds[i]);
@@ -305,7 +320,7 @@ static struct layout lay_out(const struct subject *subject)
     at.field_width = columns * at.side;
     at.field_height = rows * at.side;
     at.dot = 2 * larger(smaller(at.field_width, at.field_height) / AIM, 1);
-    struct side south = {1, field->first.latitude, field->dj, field->nj, at.side}, east = {0, field->first.longitude, field->di, field->ni, at.side};
+    struct side south = south_side(field, at.side), east = east_side(field, at.side);
     at.latitudes = make_ruler(&south, at.dot);
     at.longitudes = make_ruler(&east, at.dot);
     at.labels = label_scale(subject);
