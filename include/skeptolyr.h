@@ -87,7 +87,7 @@ extern "C" {
 #endif
 
 /* The version of this header, and of the archive that was installed with it. CHANGELOG.md says what each of its numbers stands for. */
-#define SKEPTOLYR_VERSION "1.1.0"
+#define SKEPTOLYR_VERSION "2.0.0"
 
 /* The longest file that is read, in octets, and the most points that a field can have. */
 #define SKEPTOLYR_MOST_OCTETS 268435456
@@ -148,8 +148,9 @@ uint64_t skeptolyr_decode(const uint8_t *file, size_t file_len, size_t k, size_t
 
 /* Tells where point `n` of field `k` lies. Points are counted from 0, along the rows of the grid.
  *
- * `position[0]` becomes its latitude and `position[1]` its longitude, in millionths of a degree. skeptolyr_place_point asks the same and gives them their
- * names.
+ * `position[0]` becomes its latitude and `position[1]` its longitude, in millionths of a degree. The points are spread evenly between the first and the last
+ * point that the file tells, and each number is the nearest whole one; the steps di and dj are not used. skeptolyr_place_point asks the same and gives them
+ * their names.
  *
  * Takes    the file, `k`, `n`, and an array of SKEPTOLYR_POSITION numbers or more. No check is needed before.
  * Returns  how many numbers it has put, which is SKEPTOLYR_POSITION; or a refusal from 1 to 14, 17 where the field has no point `n`, or 15 where the array is
@@ -192,8 +193,8 @@ struct skeptolyr_field {
     int64_t points;                        /* ni x nj: the room that skeptolyr_decode needs in each array */
     struct skeptolyr_position first;       /* point 0, in the north-west */
     struct skeptolyr_position last;        /* the point in the south-east, as the file tells it */
-    int64_t di;                            /* the step to the east, in millionths of a degree */
-    int64_t dj;                            /* the step to the south */
+    int64_t di;                            /* the step to the east, in millionths of a degree, as the file tells it: i x di need not lead to point i */
+    int64_t dj;                            /* the step to the south, likewise */
     int64_t category;                      /* section 4: with discipline and parameter, what the values are (code tables 4.1 and 4.2) */
     int64_t parameter;
     int64_t process;                       /* the kind of process (code table 4.3) */
