@@ -1,22 +1,19 @@
 -- The numbers of a field that is described, and of where its points lie, are within what the machine's numbers with a sign hold.
 use mathlib.Core.Path.{_≡_, sym, subst}
 use mathlib.Core.List.{List}
-use Prim.Native.Nat.{ℕ, _%_, _≤_, _<_}
+use Prim.Native.Nat.{ℕ, _≤_, _<_}
 use native.Mathlib.Nat.{mod-lt}
 use native.Mathlib.Omega.{arith}
-use lib.Dec.{eqb, leb}
-use Rattle.octets.proofs.Cases.{apart, split}
-use Rattle.section.specs.Sections.{octet, held, heldSigned}
+use Rattle.section.specs.Sections.{held}
 use Rattle.section_3_geometry.specs.Geometry.{pointsOf}
 use Rattle.section_3_geometry.proofs.Tests.{placed, cornered}
 use Rattle.section_3_positions.specs.Quotients.{positionOf}
 use Rattle.section_3_positions.proofs.Laws.{position-lies, lie-as-expected}
 use Rattle.section_3.proofs.Laws.{grid-passes}
 use Rattle.section_4.specs.declared.Level as declaredLevel
-use Rattle.section_4.specs.declared.Level.the-variants as Level
 use Rattle.section_4.specs.declared.LevelReading.the-variants as LevelReading
 use Rattle.section_4.specs.Product.{levelAt}
-use Rattle.section_4.proofs.Laws.{defined-tells}
+use Rattle.section_4.proofs.Laws.{defined-tells, level-read}
 use Rattle.question.specs.declared.Description.{Description}
 use Rattle.question.specs.declared.Described.the-variants as Described
 use Rattle.question.specs.Describe.{describe}
@@ -27,20 +24,7 @@ use Rattle.question_numbers.specs.Held.{factorSize, StartsHeld, Held}
 -- One octet holds the factor of a level.
 level-held : (file : List ℕ) (s : ℕ) (level : declaredLevel.Level) → levelAt file s ≡ LevelReading.Is level → factorSize level ≤ 127
 level-held file s level e =
-    split (eqb (octet file s 24) 255)
-    (λ all.
-    split (eqb (held file s 25 28) 0xffff_ffff)
-    (λ ones.
-    let same : Level.Absent ≡ level = cc (rw (all, ones) at e) in
-    subst (λ (x : declaredLevel.Level). factorSize x ≤ 127) same (omega arith))
-    (λ not. apart (cc (rw (all, not) at e))))
-    (λ some.
-    split (leb (held file s 25 28) 2147483647)
-    (λ few.
-    let same : Level.At (heldSigned file s 24 24) (held file s 25 28) ≡ level = cc (rw (some, few) at e) in
-    let small : held file s 24 24 % 128 < 128 = mod-lt (held file s 24 24) (omega arith) in
-    subst (λ (x : declaredLevel.Level). factorSize x ≤ 127) same (omega (arith, small)))
-    (λ many. apart (cc (rw (some, many) at e))))
+    level-read file s (λ (l : declaredLevel.Level). factorSize l ≤ 127) level e (λ _. omega arith) (λ _. omega (arith, mod-lt (held file s 24 24) {m = 128} (omega arith)))
 
 module _ (file : List ℕ) (k : ℕ) {d : Description} (said : describe file k ≡ Described.As d) where
   starts-held : StartsHeld (d .starts)

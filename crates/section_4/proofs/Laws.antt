@@ -1,13 +1,14 @@
 -- What a caller may rely on: the times of a definition are Gregorian, and an interval's end is the time that its length leads to.
 use Prim.Native.Nat.{ℕ}
 use mathlib.Core.Path.{_≡_, refl, ap, subst, sym, _∙_}
+use mathlib.Core.Bool.{true, false}
 use mathlib.Core.List.{List}
 use native.Mathlib.Omega.{arith}
 use borrow.Author.Tests.{ltb-false}
-use lib.Dec.{eqb, ltb}
+use lib.Dec.{eqb, ltb, leb}
 use Rattle.octets.specs.Places.{placeOf}
 use Rattle.octets.proofs.Cases.{apart, split}
-use Rattle.section.specs.Sections.{octet, held}
+use Rattle.section.specs.Sections.{octet, held, heldSigned}
 use Rattle.calendar.specs.declared.Time.{Time}
 use Rattle.calendar.specs.declared.Unit.{Unit}
 use Rattle.calendar.specs.declared.Unit.the-variants as Unit
@@ -21,6 +22,8 @@ use Rattle.calendar.specs.Calendar.{Gregorian, timeAt, plus, ordered, fourteenD
 use Rattle.calendar.proofs.Laws.{read-is-gregorian, plus-is-gregorian, same-digits-same-time}
 use Rattle.section_4.specs.declared.Kind.{Kind}
 use Rattle.section_4.specs.declared.Kind.the-variants as Kind
+use Rattle.section_4.specs.declared.Level as declaredLevel
+use Rattle.section_4.specs.declared.Level.the-variants as Level
 use Rattle.section_4.specs.declared.LevelReading.{LevelReading}
 use Rattle.section_4.specs.declared.LevelReading.the-variants as LevelReading
 use Rattle.section_4.specs.declared.Product as declaredProduct
@@ -87,6 +90,23 @@ defined-tells file s reference {d} e =
 -- The valid time of a definition is Gregorian.
 pub defined-valid : (file : List ℕ) (s : ℕ) (reference : Time) {d : ProductDefinition} → Gregorian reference → productDefinitionAt file s reference ≡ Defined.As d → Gregorian (d .valid)
 defined-valid file s reference {d} h e = later-is-gregorian reference (d .valid) (held file s 19 22) (octet file s 18) h (defined-tells file s reference e .moment)
+
+-- A level that was read is none, where octet 24 is all ones, and otherwise the factor and the scaled level that the octets hold.
+pub level-read : (file : List ℕ) (s : ℕ) (P : declaredLevel.Level → Type 0) (level : declaredLevel.Level) →
+    levelAt file s ≡ LevelReading.Is level →
+    (eqb (octet file s 24) 255 ≡ true → P Level.Absent) →
+    (eqb (octet file s 24) 255 ≡ false → P (Level.At (heldSigned file s 24 24) (held file s 25 28))) →
+    P level
+level-read file s P level e absent at =
+    split (eqb (octet file s 24) 255)
+    (λ all.
+    split (eqb (held file s 25 28) 0xffff_ffff)
+    (λ ones. let same : Level.Absent ≡ level = cc (rw (all, ones) at e) in subst P same (absent all))
+    (λ not. apart (cc (rw (all, not) at e))))
+    (λ some.
+    split (leb (held file s 25 28) 2147483647)
+    (λ few. let same : Level.At (heldSigned file s 24 24) (held file s 25 28) ≡ level = cc (rw (some, few) at e) in subst P same (at some))
+    (λ many. apart (cc (rw (some, many) at e))))
 
 -- Two times that come neither before nor after one another have the same digits.
 same-order : (a b : Time) → ordered a b ≡ Order.Same → fourteenDigits a ≡ fourteenDigits b

@@ -4,7 +4,7 @@ use mathlib.Core.Path.{_≡_, refl, sym, ap, subst}
 use mathlib.Core.Bool.{Bool, true, false, _&&_, _||_}
 use mathlib.Core.List.{List}
 use borrow.Author.Tests.{eqb-true, eqb-false}
-use lib.Dec.{eqb, leb, ltb}
+use lib.Dec.{eqb, ltb}
 use lib.IntN.{pos}
 use lib.ListN.{getD}
 use Rattle.octets.specs.Places.{at, placeOf}
@@ -15,14 +15,13 @@ use Rattle.calendar.specs.declared.Reading.the-variants as Reading
 use Rattle.calendar.specs.declared.Order.{Order}
 use Rattle.calendar.specs.declared.Order.the-variants as Order
 use Rattle.calendar.specs.Calendar.{timeAt, ordered}
-use Rattle.section.specs.Sections.{octet, held, heldSigned, lengthAt}
+use Rattle.section.specs.Sections.{octet, held, lengthAt}
 use Rattle.tiling_sections.specs.declared.Located.{Located}
 use Rattle.tiling_sections.specs.declared.Bitmap.{Bitmap}
 use Rattle.tiling_sections.specs.declared.Bitmap.the-variants as Bitmap
 use Rattle.section_4.specs.declared.Kind.{Kind}
 use Rattle.section_4.specs.declared.Kind.the-variants as Kind
 use Rattle.section_4.specs.declared.Level as declaredLevel
-use Rattle.section_4.specs.declared.Level.the-variants as Level
 use Rattle.section_4.specs.declared.LevelReading.the-variants as LevelReading
 use Rattle.section_4.specs.declared.Moment.{Moment}
 use Rattle.section_4.specs.declared.Moment.the-variants as Moment
@@ -33,7 +32,7 @@ use Rattle.section_4.specs.declared.ProductReading.the-variants as ProductReadi
 use Rattle.section_4.specs.declared.ProductDefinition.{ProductDefinition}
 use Rattle.section_4.specs.declared.Defined.the-variants as Defined
 use Rattle.section_4.specs.Product.{productTemplateAt, isTemplate, isProduct, levelAt, later, agreed, ending, intervalOf, productAt, productDefinitionAt}
-use Rattle.section_4.proofs.Laws.{defined-tells}
+use Rattle.section_4.proofs.Laws.{defined-tells, level-read}
 use Rattle.section_5.specs.declared.Template as declaredTemplate
 use Rattle.section_5.specs.declared.Template.the-variants as Template
 use Rattle.section_5.specs.declared.TemplateReading.{TemplateReading}
@@ -125,21 +124,7 @@ module _ (file : List ℕ) (s : ℕ) where
 
   -- Section 4: the level, the template and the kind.
   level-number : (level : declaredLevel.Level) → levelAt file s ≡ LevelReading.Is level → levelNumbers level ≡ levelHeld file s
-  level-number level e =
-      split (eqb (octet file s 24) 255)
-      (λ all.
-      split (eqb (held file s 25 28) 0xffff_ffff)
-      (λ ones.
-      let same : Level.Absent ≡ level = cc (rw (all, ones) at e) in
-      subst (λ (x : declaredLevel.Level). levelNumbers x ≡ levelHeld file s) same
-      (rw all))
-      (λ not. apart (cc (rw (all, not) at e))))
-      (λ some.
-      split (leb (held file s 25 28) 2147483647)
-      (λ few.
-      let same : Level.At (heldSigned file s 24 24) (held file s 25 28) ≡ level = cc (rw (some, few) at e) in
-      subst (λ (x : declaredLevel.Level). levelNumbers x ≡ levelHeld file s) same (rw some))
-      (λ many. apart (cc (rw (some, many) at e))))
+  level-number level e = level-read file s (λ (l : declaredLevel.Level). levelNumbers l ≡ levelHeld file s) level e (λ all. rw all) (λ some. rw some)
 
   -- An interval is of the kind that it was read for.
   same-kind : (k : Kind) (read : Reading) (moved : Moment) {p : declaredProduct.Product} → ending k read moved ≡ ProductReading.Is p → (end : Time) × (p ≡ Product.Interval end k)
