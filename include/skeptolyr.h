@@ -192,7 +192,7 @@ struct skeptolyr_field {
     int64_t nj;                            /* the rows */
     int64_t points;                        /* ni x nj: the room that skeptolyr_decode needs in each array */
     struct skeptolyr_position first;       /* point 0, in the north-west */
-    struct skeptolyr_position last;        /* the point in the south-east, as the file tells it */
+    struct skeptolyr_position last;        /* the last point, in the south-east */
     int64_t di;                            /* the step to the east, in millionths of a degree, as the file tells it: i x di need not lead to point i */
     int64_t dj;                            /* the step to the south, likewise */
     int64_t category;                      /* section 4: with discipline and parameter, what the values are (code tables 4.1 and 4.2) */
