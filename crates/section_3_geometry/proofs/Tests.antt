@@ -93,14 +93,14 @@ product-bound {a} {b} h k =
 
 -- The spans are tested one after the other: the one to the south decides where the one to the east has passed.
 module _ (g : Grid) where
-  abbrev Spanned : ℕ → Bool
-  Spanned span = isSpanned (g .ni - 1) (g .di) span
+  abbrev passesEast : ℕ → Bool
+  passesEast span = isSpanned (g .ni - 1) (g .di) span
 
-  pub east-fails : {span : ℕ} → span ≡ spanEast g → Spanned span ≡ false → isStepped g ≡ false
-  east-fails is fails = rw (ap Spanned (sym is) ∙ fails)
+  pub east-fails : {span : ℕ} → span ≡ spanEast g → passesEast span ≡ false → isStepped g ≡ false
+  east-fails is fails = rw (ap passesEast (sym is) ∙ fails)
 
-  pub south-decides : {span : ℕ} → span ≡ spanEast g → Spanned span ≡ true → isStepped g ≡ isSpanned (g .nj - 1) (g .dj) (spanSouth g)
-  south-decides is holds = rw (ap Spanned (sym is) ∙ holds)
+  pub south-decides : {span : ℕ} → span ≡ spanEast g → passesEast span ≡ true → isStepped g ≡ isSpanned (g .nj - 1) (g .dj) (spanSouth g)
+  south-decides is holds = rw (ap passesEast (sym is) ∙ holds)
 
 -- The three tests of a grid, in order: where the first two hold, the steps decide.
 module _ (g : Grid) (points : ℕ) where

@@ -1,6 +1,6 @@
 -- RULES, "Examples on either side": the examples that are proved, as one table. Each row cites the definition that the code is proved to meet.
 use mathlib.Core.Path.{_≡_}
-use mathlib.Core.Bool.{false}
+use mathlib.Core.Bool.{Bool, true, false}
 use mathlib.Core.List.{List, [], _∷_}
 use Prim.Native.Nat.{ℕ}
 use lib.IntN.{ℤ, pos, negℤ}
@@ -33,6 +33,13 @@ signedIn octets n = whole (signedOf n (numberAt octets 0 n))
 -- E or D, where it is not below 0.
 abbrev plain : ℕ → Signed
 plain size = record { negative = false; size = size }
+
+-- A place: is its latitude below 0, how large is it, and its longitude. A grid of two columns and three rows that crosses 360 degrees and the equator.
+abbrev lying : Bool → ℕ → ℕ → Position
+lying below size longitude = record { latitude = record { negative = below; size = size }; longitude = longitude }
+
+abbrev pub twoByThree : Grid
+twoByThree = record { earth = 6; radius = 6371229; ni = 2; nj = 3; first = lying false 1 359999999; last = lying true 1 0; di = 1; dj = 1 }
 
 -- A section 7 of nine octets: its length and number, the first value 5, the second 7 and Zmin -1 in one octet each, and then the values 0, 0, 3
 -- and 1 of one group, in two bits each. The group's reference is 0, and none of its numbers takes a bit.
@@ -85,6 +92,14 @@ pub record Examples : Type 0 where
   pub column1421 :
       (g : Grid) (n : ℕ) (p : Position) →
       g .ni ≡ 1422 → g .first .longitude ≡ 116969697 → g .last .longitude ≡ 160030303 → columnOf g n ≡ 1421 → LiesAt g n p → p .longitude ≡ 160030303
+  -- The six points of a grid, along its rows.
+  pub sixPoints :
+      LiesAt twoByThree 0 (lying false 1 359999999)
+      × LiesAt twoByThree 1 (lying false 1 0)
+      × LiesAt twoByThree 2 (lying false 0 359999999)
+      × LiesAt twoByThree 3 (lying false 0 0)
+      × LiesAt twoByThree 4 (lying true 1 359999999)
+      × LiesAt twoByThree 5 (lying true 1 0)
   -- In the middle of a span of one millionth of a degree, a half goes east, and a half goes south.
   pub halfEast : (g : Grid) (n : ℕ) (p : Position) → g .ni ≡ 3 → spanEast g ≡ 1 → columnOf g n ≡ 1 → (l : LiesAt g n p) → l .east ≡ 1
   pub halfSouth : (g : Grid) (n : ℕ) (p : Position) → g .nj ≡ 3 → spanSouth g ≡ 1 → rowOf g n ≡ 1 → (l : LiesAt g n p) → l .south ≡ 1
