@@ -240,14 +240,19 @@ static void add_meaning(struct line *line, const char *meaning)
 
 /* ---- Sections 0 and 1 */
 
-void judge_message_length(const struct row *row, const struct sections *sections, struct line *line)
+/* A length that must not pass what is left: of the file, or of the message. */
+static void judge_length(struct line *line, uint64_t length, uint64_t least, uint64_t left)
 {
-    uint64_t length = number_at(sections, 0, row->first, row->last), left = sections->file.length - sections->at[0].place;
     char most[LINE_ROOM];
     write_with_commas((int64_t)left, most);
     snprintf(line->value, LINE_ROOM, "%" PRIu64, length);
-    snprintf(line->rule, LINE_ROOM, left < 20 ? "at least 20; %.20s are left" : "from 20 to %.20s, what is left", most);
-    line->verdict = verdict_of(length >= 20 && length <= left);
+    snprintf(line->rule, LINE_ROOM, left < least ? "at least %" PRIu64 "; %.20s are left" : "from %" PRIu64 " to %.20s, what is left", least, most);
+    line->verdict = verdict_of(length >= least && length <= left);
+}
+
+void judge_message_length(const struct row *row, const struct sections *sections, struct line *line)
+{
+    judge_length(line, number_at(sections, 0, row->first, row->last), 20, sections->file.length - sections->at[0].place);
 }
 
 /* The day must be one that its month has. Where a number is wrong by itself, this is not asked. */
@@ -585,12 +590,7 @@ void judge_present(const struct row *row, const struct sections *sections, struc
 
 void judge_next_length(const struct row *row, const struct sections *sections, struct line *line)
 {
-    uint64_t length = (uint64_t)value_of(row, sections), left = sections->at[NEXT].length;
-    char most[LINE_ROOM];
-    write_with_commas((int64_t)left, most);
-    snprintf(line->value, LINE_ROOM, "%" PRIu64, length);
-    snprintf(line->rule, LINE_ROOM, left < 5 ? "at least 5; %.20s are left" : "from 5 to %.20s, what is left", most);
-    line->verdict = verdict_of(length >= 5 && length <= left);
+    judge_length(line, (uint64_t)value_of(row, sections), 5, sections->at[NEXT].length);
 }
 
 void judge_next_number(const struct row *row, const struct sections *sections, struct line *line)
