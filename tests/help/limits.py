@@ -26,7 +26,8 @@ TRIED = os.path.join(SCRATCH, 'tried.json')
 TABLE = ['theorems_limits/Samples', 'theorems_limits/Judged', 'theorems_limits/Limits']
 # What RULES, "Sections in force", says of sections 1 and 3 to 7, and of times.
 DEFINITIONS = [
-    'calendar/Calendar', 'section_1/Identification', 'section_3_geometry/Geometry', 'section_3_positions/Positions', 'section_3/Section3', 'section_4/Product',
+    'calendar/Calendar', 'section_1/Identification', 'section_3_geometry/Geometry', 'section_3_positions/Positions', 'section_3_lambert/Lambert',
+    'section_3_lambert/Sheet', 'section_3/Section3', 'section_4/Product',
     'section_5_groups/Groups', 'section_5/Representation', 'section_6/Presence', 'section_7_layout/Runs', 'section_7/Packing']
 # How many changes are tried in one check, and how many checks run at a time. A check that ends without a verdict is repeated with fewer.
 TOGETHER = 16
@@ -36,12 +37,13 @@ SECONDS = 600
 # Changes that alter nothing, and why: (definition, how-manieth number of it, by how much it is changed).
 UNCHANGED = {
     ('latitudeAt', 2, -1): 'on the equator the size is 0 either way',
-    ('isRegular', 8, -1): 'octet 12 is zero by the test before, and adds nothing in front of octets 13-14',
+    ('isOf', 7, -1): 'octet 12 is zero by the test before, and adds nothing in front of octets 13-14',
     ('isScanned', 4, -1): 'octet 42 is zero by the test before',
     ('statedRadius', 3, -1): 'octet 16 is zero by the test before',
     ('statedRadius', 6, -1): 'octet 16 is zero by the test before',
     ('statedRadius', 8, -1): 'octet 16 is zero by the test before',
-    ('ofRadius', 1, -1): 'octet 6 is zero by the test before',
+    ('degreesBy', 1, -1): 'octet 6 is zero by the test before',
+    ('lambertBy', 1, -1): 'octet 6 is zero by the test before',
     ('productTemplateAt', 1, -1): 'octet 7 is zero in every product that is taken',
     ('isProduct', 2, 1): 'octet 8 is zero in templates 0 and 8',
     ('isScaled', 1, -1): 'whether R is finite is told by eight of its 32 bits, and what stands in front of these is not looked at',

@@ -6,7 +6,8 @@ use native.Mathlib.Omega.{arith}
 use lib.ListN.{length, length-append}
 use Rattle.refusals.specs.declared.Refusal.{Refusal}
 use Rattle.refusals.specs.Refusals.{numberOf}
-use Rattle.section_3_geometry.specs.declared.Grid.{Grid}
+use Rattle.section_3_geometry.specs.declared.Frame.{Frame}
+use Rattle.section_3_geometry.specs.Geometry.{frameOf}
 use Rattle.section_4.specs.declared.ProductDefinition.{ProductDefinition}
 use Rattle.calendar.specs.Calendar.{digitsOf}
 use Rattle.question.specs.declared.Description.{Description}
@@ -49,8 +50,8 @@ refusal-short r = simp length-append (omega (arith, decimal-short (numberOf (r .
 pub subject-short : (discipline : ℕ) (d : ProductDefinition) → length (subjectText discipline d) ≤ 62
 subject-short discipline d = simp length-append (omega (arith, decimal-short discipline, decimal-short (d .category), decimal-short (d .parameter)))
 
-pub size-short : (g : Grid) → length (sizeText g) ≤ 41
-size-short g = simp length-append (omega (arith, decimal-short (g .ni), decimal-short (g .nj)))
+pub size-short : (f : Frame) → length (sizeText f) ≤ 41
+size-short f = simp length-append (omega (arith, decimal-short (f .ni), decimal-short (f .nj)))
 
 -- What stands behind a field's number, over the texts that it holds.
 behind : (subject size digits : List ℕ) (surface n : ℕ) → length subject ≤ 62 → length size ≤ 41 → length digits ≤ 14 → length (subject ++ ascii " " ++ decimal surface ++ ascii " " ++ size ++ ascii " " ++ digits ++ ascii " " ++ decimal n) ≤ 161
@@ -60,10 +61,10 @@ pub field-short : (d : Description) → length (fieldText d) ≤ 161
 field-short d =
     behind
     (subjectText (d .discipline) (d .definition))
-    (sizeText (d .grid))
+    (sizeText (frameOf (d .grid)))
     (digitsOf (listedTime (d .definition)))
     (d .definition .surface)
     (d .representation .n)
     (subject-short (d .discipline) (d .definition))
-    (size-short (d .grid))
+    (size-short (frameOf (d .grid)))
     (omega arith)

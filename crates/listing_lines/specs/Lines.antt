@@ -5,7 +5,8 @@ use Rattle.refusals.specs.declared.Refusal.{Refusal}
 use Rattle.refusals.specs.Refusals.{numberOf}
 use Rattle.calendar.specs.declared.Time.{Time}
 use Rattle.calendar.specs.Calendar.{digitsOf}
-use Rattle.section_3_geometry.specs.declared.Grid.{Grid}
+use Rattle.section_3_geometry.specs.declared.Frame.{Frame}
+use Rattle.section_3_geometry.specs.Geometry.{frameOf}
 use Rattle.section_4.specs.declared.Product.{Product}
 use Rattle.section_4.specs.declared.Product.the-variants as Product
 use Rattle.section_4.specs.declared.ProductDefinition.{ProductDefinition}
@@ -20,9 +21,9 @@ refusalText r = ascii "refused " ++ decimal (numberOf (r .why)) ++ ascii " at " 
 abbrev pub subjectText : ℕ → ProductDefinition → List ℕ
 subjectText discipline d = decimal discipline ++ ascii "/" ++ decimal (d .category) ++ ascii "/" ++ decimal (d .parameter)
 
--- Its size, Ni and Nj.
-abbrev pub sizeText : Grid → List ℕ
-sizeText g = decimal (g .ni) ++ ascii "x" ++ decimal (g .nj)
+-- Its size, Ni and Nj, whichever kind of grid it is on.
+abbrev pub sizeText : Frame → List ℕ
+sizeText f = decimal (f .ni) ++ ascii "x" ++ decimal (f .nj)
 
 -- The time that is listed: the valid time, for an interval its end.
 abbrev pub listedBy : Time → Product → Time
@@ -39,7 +40,7 @@ fieldText d =
     ++ ascii " "
     ++ decimal (d .definition .surface)
     ++ ascii " "
-    ++ sizeText (d .grid)
+    ++ sizeText (frameOf (d .grid))
     ++ ascii " "
     ++ digitsOf (listedTime (d .definition))
     ++ ascii " "

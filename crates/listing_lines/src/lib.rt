@@ -7,7 +7,7 @@ ghost use Rattle.listing_lines.specs.Lines.{refusalText, subjectText, si
 use calendar::Time;
 use question::Description;
 use refusals::Refusal;
-use section_3_geometry::Grid;
+use section_3_geometry::Frame;
 use section_4::Product;
 use section_4::ProductDefinition;
 
@@ -36,13 +36,13 @@ fn put_subject(run: &mut [u8], at: usize, discipline: u8, definition: ProductDef
 }
 
 // Puts a grid's size, as "2x2".
-fn put_size(run: &mut [u8], at: usize, grid: Grid) -> usize
+fn put_size(run: &mut [u8], at: usize, frame: Frame) -> usize
     requires { ⌜ at + 41 ≤ length (now run) ⌝ }
-    ensures { λ r. ⌜ Puts (now (run .entry)) at (sizeText grid) (now (run .exit)) r ⌝ }
+    ensures { λ r. ⌜ Puts (now (run .entry)) at (sizeText frame) (now (run .exit)) r ⌝ }
 {
-    let columns = text::put_decimal(run, at, grid.ni as u64);
+    let columns = text::put_decimal(run, at, frame.ni as u64);
     let rows = text::put(run, columns, b"x");
-    text::put_decimal(run, rows, grid.nj as u64)
+    text::put_decimal(run, rows, frame.nj as u64)
 }
 
 // The time that a line shows: the valid time, for an interval its end.
@@ -66,8 +66,9 @@ pub fn put_field(run: &mut [u8], at: usize, description: Description) -> usize
     let surface = text::put(run, subject, b" ");
     let kind = text::put_decimal(run, surface, definition.surface as u64);
     let size = text::put(run, kind, b" ");
-    let grid = put_size(run, size, description.grid);
-    let time = text::put(run, grid, b" ");
+    let grid = description.grid;
+    let frame = put_size(run, size, section_3_geometry::frame_of(grid));
+    let time = text::put(run, frame, b" ");
     let digits = calendar::digits(listed_time(definition));
     let moment = text::put(run, time, &digits);
     let count = text::put(run, moment, b" ");

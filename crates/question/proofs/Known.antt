@@ -89,7 +89,7 @@ module _ (file : List ℕ) (d : Description) (known : Known file d) where
   seven-lies = subst (λ (s : Starts). Lies file (s .seven .0)) (sym (judged .ofStarts)) (sections-laid .seven)
 
   pub few-points : points ≤ 16777216
-  few-points = described-grid file (known .0) (known .1) .1
+  few-points = described-grid file (known .0) (known .1) .2
 
   pub scaled : Scaled (d .representation .r) (d .representation .e) (d .representation .d)
   scaled = represented file (located .0 .starts .five .0) (judged .ofFive)

@@ -19,16 +19,14 @@ use Rattle.tiling.specs.declared.Found.{Found}
 use Rattle.tiling.specs.declared.Found.the-variants as Found
 use Rattle.tiling.specs.Tiling.{largest, InFile, tiled, refused, tilingOf, foundIn, find}
 use Rattle.tiling.proofs.Bounds.{tiled-sound, field-laid, refused-placed}
-use Rattle.section_3_geometry.specs.Geometry.{Measured, pointsOf}
-use Rattle.section_3.proofs.Laws.{grid-taken}
+use Rattle.section_3_geometry.specs.Geometry.{pointsOf}
+use Rattle.section_3.proofs.Laws.{Passes, grid-passes, grid-few}
 use Rattle.question.specs.declared.Description.{Description}
 use Rattle.question.specs.declared.Described.{Described}
 use Rattle.question.specs.declared.Described.the-variants as Described
-use Rattle.question.specs.declared.Asks.{Asks}
-use Rattle.question.specs.declared.Asks.the-variants as Asks
 use Rattle.question.specs.Judged.{Judged}
 use Rattle.question.specs.Describe.{disciplineAt, refusedAt, describedAt, fieldIn, describe}
-use Rattle.question.specs.Judge.{hasRoom, isDecodable, descriptionLength, positionLength, askedOf, judge}
+use Rattle.question.specs.Judge.{Asks, hasRoom, isDecodable, descriptionLength, askedOf, judge}
 use Rattle.question.proofs.Chain.{at-section-1, at-section-3, at-section-4, at-section-5, at-section-6, at-section-7}
 
 -- A refusal is no description, and a description is one alone.
@@ -109,12 +107,12 @@ module _ (file : List ℕ) (k : ℕ) where
   pub described-laid : {l : Located} → FieldOf file k l → (length file ≤ largest) × Laid file l
   described-laid f = (tiled-sound file (f .tiles) .0, subst (Laid file) (f .lies) (field-laid file k (f .tiles) (f .below)))
 
-  -- Its grid is one that is taken.
-  pub described-grid : {d : Description} → describe file k ≡ Described.As d → Measured (d .grid) × (pointsOf (d .grid) ≤ 16777216)
+  -- Its grid has passed the tests of its kind, and has not too many points.
+  pub described-grid : {d : Description} → describe file k ≡ Described.As d → (s : ℕ) × Passes file s (d .grid) × (pointsOf (d .grid) ≤ 16777216)
   described-grid h =
       let known = described h in
-      let taken = grid-taken file (known .0 .starts .three .0) (known .2 .ofThree) in
-      (taken .0, taken .1)
+      let s : ℕ = known .0 .starts .three .0 in
+      (s, grid-passes file s (known .2 .ofThree), grid-few file s (known .2 .ofThree))
 
 -- A refusal, where there is one, names a place within the largest file that is taken.
 abbrev Placed : Described → Type 0
@@ -162,12 +160,7 @@ module _ (file : List ℕ) (k : ℕ) where
     where
       by : (a : Described) → describe file k ≡ a → (asks : Asks) → Placed (askedOf file asks a)
       by (Described.Refused r) h asks = describe-placed h
-      by (Described.As d) h (Asks.Point n) = split (ltb n (pointsOf (d .grid))) (λ i. rw i tt) (λ i. rw i (omega arith))
-      by (Described.As d) h (Asks.Numbers room) = split (ltb room descriptionLength) (λ i. rw i (omega arith)) (λ i. rw i tt)
-      by (Described.As d) h (Asks.Position n room) =
-          split (ltb n (pointsOf (d .grid)))
-          (λ i. split (ltb room positionLength) (λ j. rw (i, j) (omega arith)) (λ j. rw (i, j) tt))
-          (λ i. rw i (omega arith))
+      by (Described.As d) h (Asks.Numbers room) = split (ltb room (descriptionLength (d .grid))) (λ i. rw i (omega arith)) (λ i. rw i tt)
       by (Described.As d) h (Asks.Values start values presence) =
           split (hasRoom start (pointsOf (d .grid)) values presence)
           (λ i. split (isDecodable file d) (λ j. rw (i, j) tt) (λ j. rw (i, j) (seven-placed h)))
@@ -180,43 +173,16 @@ room-fits start points values presence e =
     (leb-true (start + points) values (tests .0), leb-true (start + points) presence (tests .1))
 
 module _ (file : List ℕ) (k : ℕ) {d : Description} where
-  -- What is answered of a point is answered of a field that is described and has the point.
-  pub judged-point : (n : ℕ) → judge file k (Asks.Point n) ≡ Described.As d → (describe file k ≡ Described.As d) × (n < pointsOf (d .grid))
-  judged-point n = by (describe file k) refl
-    where
-      by : (a : Described) → describe file k ≡ a → askedOf file (Asks.Point n) a ≡ Described.As d → (describe file k ≡ Described.As d) × (n < pointsOf (d .grid))
-      by (Described.Refused r) is h = no-description h
-      by (Described.As c) is h =
-          split (ltb n (pointsOf (c .grid)))
-          (λ i. let same : c ≡ d = one-description (rw i at h) in rw (← same) (is, ltb-true n (pointsOf (c .grid)) i))
-          (λ i. no-description (rw i at h))
-
   -- What is answered in numbers is answered of a field that is described, and the run is long enough.
-  pub judged-numbers : (room : ℕ) → judge file k (Asks.Numbers room) ≡ Described.As d → (describe file k ≡ Described.As d) × (descriptionLength ≤ room)
+  pub judged-numbers : (room : ℕ) → judge file k (Asks.Numbers room) ≡ Described.As d → (describe file k ≡ Described.As d) × (descriptionLength (d .grid) ≤ room)
   judged-numbers room = by (describe file k) refl
     where
-      by : (a : Described) → describe file k ≡ a → askedOf file (Asks.Numbers room) a ≡ Described.As d → (describe file k ≡ Described.As d) × (descriptionLength ≤ room)
+      by : (a : Described) → describe file k ≡ a → askedOf file (Asks.Numbers room) a ≡ Described.As d → (describe file k ≡ Described.As d) × (descriptionLength (d .grid) ≤ room)
       by (Described.Refused r) is h = no-description h
       by (Described.As c) is h =
-          split (ltb room descriptionLength)
+          split (ltb room (descriptionLength (c .grid)))
           (λ i. no-description (rw i at h))
-          (λ i. let same : c ≡ d = one-description (rw i at h) in rw (← same) (is, ltb-false room descriptionLength i))
-
-  -- What is answered of a position is answered of a field that is described and has the point, and the run is long enough.
-  pub judged-position : (n room : ℕ) → judge file k (Asks.Position n room) ≡ Described.As d →
-      (describe file k ≡ Described.As d) × (n < pointsOf (d .grid)) × (positionLength ≤ room)
-  judged-position n room = by (describe file k) refl
-    where
-      by : (a : Described) → describe file k ≡ a → askedOf file (Asks.Position n room) a ≡ Described.As d →
-          (describe file k ≡ Described.As d) × (n < pointsOf (d .grid)) × (positionLength ≤ room)
-      by (Described.Refused r) is h = no-description h
-      by (Described.As c) is h =
-          split (ltb n (pointsOf (c .grid)))
-          (λ i.
-          split (ltb room positionLength)
-          (λ j. no-description (rw (i, j) at h))
-          (λ j. let same : c ≡ d = one-description (rw (i, j) at h) in rw (← same) (is, ltb-true n (pointsOf (c .grid)) i, ltb-false room positionLength j)))
-          (λ i. no-description (rw i at h))
+          (λ i. let same : c ≡ d = one-description (rw i at h) in rw (← same) (is, ltb-false room (descriptionLength (c .grid)) i))
 
   -- What is answered of values is answered of a field that is described, has room, and has its integers in their range.
   pub judged-values : (start values presence : ℕ) → judge file k (Asks.Values start values presence) ≡ Described.As d →

@@ -6,14 +6,20 @@ use mathlib.Core.List.{List}
 use lib.Dec.{leb, ltb}
 use lib.IntN.{ℤ}
 use Rattle.refusals.specs.declared.Why.the-variants as Why
+use Rattle.section_3_geometry.specs.declared.Grid.{Grid}
+use Rattle.section_3_geometry.specs.declared.Grid.the-variants as Grid
 use Rattle.section_3_geometry.specs.Geometry.{pointsOf}
 use Rattle.values_integers.specs.Integers.{integerAt, areInRange}
 use Rattle.question.specs.declared.Description.{Description}
 use Rattle.question.specs.declared.Described.{Described}
 use Rattle.question.specs.declared.Described.the-variants as Described
-use Rattle.question.specs.declared.Asks.{Asks}
-use Rattle.question.specs.declared.Asks.the-variants as Asks
 use Rattle.question.specs.Describe.{refusedAt, describe}
+
+-- What is asked of a field that is described: the numbers of its description, for which a run of this length is lent; or all its values, for which two runs of
+-- these lengths are lent from a start index on.
+pub data Asks : Type 0 where
+  Numbers : (room : ℕ) → Asks
+  Values : (start values presence : ℕ) → Asks
 
 -- A description that describe has given of this file.
 abbrev pub Known : List ℕ → Description → Type 0
@@ -38,30 +44,18 @@ valuesAsked file start values presence d =
     (cond (isDecodable file d) (Described.As d) (refusedAt Why.ValueOutOfRange (d .starts .seven .0)))
     (refusedAt Why.NoRoom 0)
 
--- A point is asked: 17, where n is not below the point count.
-abbrev pub pointAsked : ℕ → Description → Described
-pointAsked n d = cond (ltb n (pointsOf (d .grid))) (Described.As d) (refusedAt Why.NoSuchPoint 0)
+-- How many numbers tell a description to C: those that a Lambert grid alone has come behind the others.
+abbrev pub descriptionLength : Grid → ℕ
+descriptionLength (Grid.Degrees g) = 53
+descriptionLength (Grid.Lambert g) = 60
 
--- How many numbers tell a description to C, and how many tell a position.
-abbrev pub descriptionLength : ℕ
-descriptionLength = 53
-
-abbrev pub positionLength : ℕ
-positionLength = 2
-
--- So many numbers are asked, for a run of this length: 15, where it is too short for them.
-abbrev pub numbersAsked : ℕ → ℕ → Description → Described
-numbersAsked numbers room d = cond (ltb room numbers) (refusedAt Why.NoRoom 0) (Described.As d)
-
--- A position is asked for a run of this length: 17, and 15 behind it.
-abbrev pub positionAsked : ℕ → ℕ → Description → Described
-positionAsked n room d = cond (ltb n (pointsOf (d .grid))) (numbersAsked positionLength room d) (refusedAt Why.NoSuchPoint 0)
+-- These numbers are asked, for a run of this length: 15, where it is too short for them.
+abbrev pub numbersAsked : ℕ → Description → Described
+numbersAsked room d = cond (ltb room (descriptionLength (d .grid))) (refusedAt Why.NoRoom 0) (Described.As d)
 
 -- What is judged beside the description, by what is asked.
 abbrev pub asked : List ℕ → Asks → Description → Described
-asked file (Asks.Point n) d = pointAsked n d
-asked file (Asks.Numbers room) d = numbersAsked descriptionLength room d
-asked file (Asks.Position n room) d = positionAsked n room d
+asked file (Asks.Numbers room) d = numbersAsked room d
 asked file (Asks.Values start values presence) d = valuesAsked file start values presence d
 
 -- The refusals of describe come first.

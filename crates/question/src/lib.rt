@@ -1,5 +1,6 @@
-// The one place where questions about a field are judged. Each refusal that such a question can meet is tried here, in the order of refusals, and
-// gets its number and its place here. Whoever answers a question asks here first. Nothing has a precondition: what cannot be answered is refused.
+// The one place where the sections of a field are judged. Refusals 1 to 14 are tried here, in the order of refusals, and get their numbers and places here; and so
+// are those behind them that describe and decode can meet. Whoever answers a question asks here first. Nothing has a precondition: what cannot be answered is
+// refused.
 ghost use mathlib.Core.Path.{_≡_};
 ghost use Prim.Native.Nat.{_≤_};
 ghost use Rattle.calendar.specs.Calendar.{Gregorian};
@@ -7,7 +8,7 @@ ghost use Rattle.tiling_sections.specs.Laid.{Laid};
 ghost use Rattle.section_3_geometry.specs.Geometry.{pointsOf};
 ghost use Rattle.section_7.specs.Packing.{LimitedBy};
 ghost use Rattle.question.specs.Describe.{represented, gridded, describedAt, describe};
-ghost use Rattle.question.specs.Judge.{Known, hasRoom, isDecodable, valuesAsked, pointAsked, numbersAsked, positionAsked, asked, judge};
+ghost use Rattle.question.specs.Judge.{Asks, Known, hasRoom, isDecodable, valuesAsked, descriptionLength, numbersAsked, judge};
 use octets::FilePlace;
 use octets::OctetNumber;
 use refusals::Refusal;
@@ -44,22 +45,6 @@ pub struct Description {
 pub enum Described {
     As(Description),
     Refused(Refusal),
-}
-
-// What is asked of a field that is described: one of its points, by its number; the numbers of its description, for which a run of this length is lent; where
-// a point lies, with a run for that; or all its values, for which two runs of these lengths are lent from a start index on.
-pub enum Asks {
-    Point(usize),
-    Numbers(usize),
-    Position {
-        n: usize,
-        room: usize,
-    },
-    Values {
-        start: usize,
-        values: usize,
-        presence: usize,
-    },
 }
 
 fn refused(why: Why, place: FilePlace) -> Described
@@ -226,64 +211,50 @@ fn values_asked(
     Described::As(description)
 }
 
-// A point of a field that is described: 17.
-fn point_asked(description: Description, n: usize) -> Described
-    requires { ⌜ pointsOf (description .grid) ≤ 16777216 ⌝ }
-    ensures { λ r. ⌜ r ≡ pointAsked n description ⌝ }
+// How many numbers tell a description to C: those of a Lambert grid come behind the others.
+fn description_length(grid: Grid) -> usize
+    ensures { λ r. ⌜ r ≡ descriptionLength grid ⌝ }
 {
-    let grid = description.grid;
-    if n < section_3_geometry::points_of(grid) as usize {
-        return Described::As(description);
+    match grid {
+        Grid::Degrees(_) => 53,
+        Grid::Lambert(_) => 60,
     }
-    refused(Why::NoSuchPoint, FilePlace(0))
 }
 
-// So many numbers for a run of this length: 15.
-fn numbers_asked(description: Description, numbers: usize, room: usize) -> Described
-    ensures { λ r. ⌜ r ≡ numbersAsked numbers room description ⌝ }
+// The numbers of a field that is described, for a run of this length: 15.
+fn numbers_asked(description: Description, room: usize) -> Described
+    ensures { λ r. ⌜ r ≡ numbersAsked room description ⌝ }
 {
-    if room < numbers {
+    let grid = description.grid;
+    if room < description_length(grid) {
         return refused(Why::NoRoom, FilePlace(0));
     }
     Described::As(description)
 }
 
-// Where a point lies, for a run of this length: 17, and then 15.
-fn position_asked(description: Description, n: usize, room: usize) -> Described
-    requires { ⌜ pointsOf (description .grid) ≤ 16777216 ⌝ }
-    ensures { λ r. ⌜ r ≡ positionAsked n room description ⌝ }
-{
-    let grid = description.grid;
-    if n < section_3_geometry::points_of(grid) as usize {
-        return numbers_asked(description, 2, room);
-    }
-    refused(Why::NoSuchPoint, FilePlace(0))
-}
-
-// What is asked of a field that is described.
-fn asked(file: &[u8], description: Description, asks: Asks) -> Described
-    requires { ⌜ Known (now file) description ⌝ }
-    ensures { λ r. ⌜ r ≡ asked (now (file .entry)) asks description ⌝ }
-{
-    match asks {
-        Asks::Point(n) => point_asked(description, n),
-        Asks::Numbers(room) => numbers_asked(description, 53, room),
-        Asks::Position { n, room } => position_asked(description, n, room),
-        Asks::Values {
-            start,
-            values,
-            presence,
-        } => values_asked(file, description, start, values, presence),
-    }
-}
-
-// Judges what is asked of field `k`: its description, where the question is to be answered, or the refusal. Behind 1 to 14 come 17 for a point, 15 for numbers,
-// 17 and 15 for a position, and 15 and 16 for values.
-pub fn judge(file: &[u8], k: usize, asks: Asks) -> Described
-    ensures { λ r. ⌜ r ≡ judge (now (file .entry)) k asks ⌝ }
+// Judges whether the numbers of field `k` are to be put into a run of this length: its description, or refusal 1 to 14 or 15.
+pub fn judge_numbers(file: &[u8], k: usize, room: usize) -> Described
+    ensures { λ r. ⌜ r ≡ judge (now (file .entry)) k (Asks.Numbers room) ⌝ }
 {
     match describe(file, k) {
-        Described::As(description) => asked(file, description, asks),
+        Described::As(description) => numbers_asked(description, room),
+        Described::Refused(refusal) => Described::Refused(refusal),
+    }
+}
+
+// Judges whether the values of field `k` are to be put into runs of these lengths, from `start` on: its description, or refusal 1 to 14, 15 or 16. Each of these two
+// functions is called in one place and so compiled in place: then a description is not copied whole.
+pub fn judge_values(
+    file: &[u8],
+    k: usize,
+    start: usize,
+    values: usize,
+    presence: usize,
+) -> Described
+    ensures { λ r. ⌜ r ≡ judge (now (file .entry)) k (Asks.Values start values presence) ⌝ }
+{
+    match describe(file, k) {
+        Described::As(description) => values_asked(file, description, start, values, presence),
         Described::Refused(refusal) => Described::Refused(refusal),
     }
 }

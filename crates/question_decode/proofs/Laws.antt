@@ -27,8 +27,7 @@ use Rattle.values_complex.specs.Complex.{sizeIn}
 use Rattle.question.specs.declared.Description.{Description}
 use Rattle.question.specs.declared.Described.{Described}
 use Rattle.question.specs.declared.Described.the-variants as Described
-use Rattle.question.specs.declared.Asks.the-variants as Asks
-use Rattle.question.specs.Judge.{Known, integerOf, judge}
+use Rattle.question.specs.Judge.{Asks, Known, integerOf, judge}
 use Rattle.question.proofs.Laws.{judge-placed, judged-values}
 use Rattle.question.proofs.Known.{located, judged, sections-laid, few-points, simple-template, groups-integers}
 use Rattle.question_decode.specs.declared.Decoded.{Decoded}

@@ -21,8 +21,7 @@ use Rattle.values_points.specs.Points.{doubleAt}
 use Rattle.question.specs.declared.Description.{Description}
 use Rattle.question.specs.declared.Described.{Described}
 use Rattle.question.specs.declared.Described.the-variants as Described
-use Rattle.question.specs.declared.Asks.the-variants as Asks
-use Rattle.question.specs.Judge.{Known, integerOf, isDecodable, judge}
+use Rattle.question.specs.Judge.{Asks, Known, integerOf, isDecodable, judge}
 use Rattle.question_decode.specs.declared.Decoded.{Decoded}
 use Rattle.question_decode.specs.declared.Decoded.the-variants as Decoded
 

@@ -11,7 +11,6 @@ ghost use Rattle.question.specs.Judge.{hasRoom};
 ghost use Rattle.question_decode.specs.Decoding.{Decodable, MarkedBy, markedAt, Stretch, packingBy, doublesOf, marksOf, answer, valuesLeft, presenceLeft};
 use doubles::Packing;
 use octets::FilePlace;
-use question::Asks;
 use question::Described;
 use question::Description;
 use refusals::Refusal;
@@ -159,12 +158,7 @@ pub fn decode(
     ensures { λ _. ⌜ now (values .exit) ≡ valuesLeft (now (file .entry)) k start (now (values .entry)) (now (presence .entry)) ⌝ }
     ensures { λ _. ⌜ now (presence .exit) ≡ presenceLeft (now (file .entry)) k start (now (values .entry)) (now (presence .entry)) ⌝ }
 {
-    let asks = Asks::Values {
-        start,
-        values: values.len(),
-        presence: presence.len(),
-    };
-    match question::judge(file, k, asks) {
+    match question::judge_values(file, k, start, values.len(), presence.len()) {
         Described::As(description) => {
             Decoded::Points(decode_judged(file, description, start, values, presence))
         }

@@ -1,15 +1,32 @@
 -- Sizes within which the machine's numbers with a sign hold every number of a description.
-use Prim.Native.Nat.{ℕ, _≤_}
+use Prim.Native.Nat.{ℕ, _≤_, _<_}
+use Rattle.section_3_geometry.specs.declared.DegreeGrid.{DegreeGrid}
+use Rattle.section_3_geometry.specs.declared.LambertGrid.{LambertGrid}
 use Rattle.section_3_geometry.specs.declared.Grid.{Grid}
+use Rattle.section_3_geometry.specs.declared.Grid.the-variants as Grid
 use Rattle.section_3_geometry.specs.Geometry.{pointsOf}
+use Rattle.section_3_lambert.specs.declared.SheetPlace.{SheetPlace}
 use Rattle.section_4.specs.declared.Level.{Level}
 use Rattle.section_4.specs.declared.Level.the-variants as Level
 use Rattle.section_5.specs.declared.Representation.{Representation}
 use Rattle.tiling_sections.specs.declared.Starts.{Starts}
 use Rattle.question.specs.declared.Description.{Description}
 
+abbrev pub DegreesHeld : DegreeGrid → Type 0
+DegreesHeld g = (g .first .latitude .size ≤ 90000000) × (g .last .latitude .size ≤ 90000000)
+
+abbrev pub LambertHeld : LambertGrid → Type 0
+LambertHeld g = (g .first .latitude .size ≤ 90000000) × (g .stated .size ≤ 90000000) × (g .cut1 .size ≤ 90000000) × (g .cut2 .size ≤ 90000000)
+
+abbrev pub LatitudesHeld : Grid → Type 0
+LatitudesHeld (Grid.Degrees g) = DegreesHeld g
+LatitudesHeld (Grid.Lambert g) = LambertHeld g
+
 abbrev pub GridHeld : Grid → Type 0
-GridHeld g = (g .first .latitude .size ≤ 90000000) × (g .last .latitude .size ≤ 90000000) × (pointsOf g ≤ 16777216)
+GridHeld g = LatitudesHeld g × (pointsOf g ≤ 16777216)
+
+abbrev pub SheetHeld : SheetPlace → Type 0
+SheetHeld p = (p .right < 9223372036854775808) × (p .down < 9223372036854775808)
 
 -- The size of a level's factor.
 abbrev pub factorSize : Level → ℕ

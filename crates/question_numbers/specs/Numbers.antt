@@ -1,4 +1,4 @@
--- RULES, "A description" and "What C is given": a description and a position as rows of whole numbers, in the order in which RULES names them. A case of an enum
+-- RULES, "A description" and "What C is given": a description and a place as rows of whole numbers, in the order in which RULES names them. A case of an enum
 -- is told by what the octets of the file hold for it.
 use Prim.Native.Nat.{ℕ}
 use mathlib.Core.List.{List, [], _∷_, _++_, map}
@@ -7,9 +7,12 @@ use Rattle.octets.specs.Numbers.{whole}
 use Rattle.calendar.specs.declared.Time.{Time}
 use Rattle.tiling_sections.specs.declared.Starts.{Starts}
 use Rattle.tiling_sections.specs.Walk.{sectionStart}
-use Rattle.section_3_geometry.specs.declared.Grid.{Grid}
 use Rattle.section_3_geometry.specs.declared.Position.{Position}
-use Rattle.section_3_geometry.specs.Geometry.{pointsOf}
+use Rattle.section_3_geometry.specs.declared.Frame.{Frame}
+use Rattle.section_3_geometry.specs.declared.Grid.{Grid}
+use Rattle.section_3_geometry.specs.declared.Grid.the-variants as Grid
+use Rattle.section_3_geometry.specs.Geometry.{pointsIn, frameOf}
+use Rattle.section_3_lambert.specs.declared.SheetPlace.{SheetPlace}
 use Rattle.section_4.specs.declared.Level.{Level}
 use Rattle.section_4.specs.declared.Level.the-variants as Level
 use Rattle.section_4.specs.declared.Kind.{Kind}
@@ -29,13 +32,26 @@ timeNumbers t = map pos (t .date .year ∷ t .date .month ∷ t .date .day ∷ t
 abbrev pub positionNumbers : Position → List ℤ
 positionNumbers p = whole (p .latitude) ∷ pos (p .longitude) ∷ []
 
--- Behind Ni and Nj stands their product, the point count: it is the room that decode needs.
+-- A place on the sheet: how far to the right and how far down, in thousandths of a metre.
+abbrev pub sheetNumbers : SheetPlace → List ℤ
+sheetNumbers p = map pos (p .right ∷ p .down ∷ [])
+
+-- What both kinds of grid have. Behind Ni and Nj stands their product, the point count: it is the room that decode needs.
+abbrev pub frameNumbers : Frame → List ℤ
+frameNumbers f = map pos (f .earth ∷ f .radius ∷ f .ni ∷ f .nj ∷ pointsIn f ∷ [])
+
+-- The first point; and of a grid in degrees the last one and the steps, where a Lambert grid has zeros.
+abbrev pub degreeNumbers : Grid → List ℤ
+degreeNumbers (Grid.Degrees g) = positionNumbers (g .first) ++ positionNumbers (g .last) ++ map pos (g .di ∷ g .dj ∷ [])
+degreeNumbers (Grid.Lambert g) = positionNumbers (g .first) ++ map pos (0 ∷ 0 ∷ 0 ∷ 0 ∷ [])
+
 abbrev pub gridNumbers : Grid → List ℤ
-gridNumbers g =
-    map pos (g .earth ∷ g .radius ∷ g .ni ∷ g .nj ∷ pointsOf g ∷ [])
-    ++ positionNumbers (g .first)
-    ++ positionNumbers (g .last)
-    ++ map pos (g .di ∷ g .dj ∷ [])
+gridNumbers g = frameNumbers (frameOf g) ++ degreeNumbers g
+
+-- What a Lambert grid alone has: its template, the latitude of the stated lengths, the upright meridian, Dx and Dy, and the two cutting latitudes.
+abbrev pub lambertNumbers : Grid → List ℤ
+lambertNumbers (Grid.Degrees g) = []
+lambertNumbers (Grid.Lambert g) = pos 30 ∷ whole (g .stated) ∷ pos (g .upright) ∷ pos (g .dx) ∷ pos (g .dy) ∷ whole (g .cut1) ∷ whole (g .cut2) ∷ []
 
 -- Is there a level (1) or none (0), its factor, and the scaled level.
 abbrev pub levelNumbers : Level → List ℤ
@@ -72,10 +88,14 @@ fieldNumbers d =
     ++ gridNumbers (d .grid)
     ++ definitionNumbers (d .definition)
 
--- A whole description, as 53 numbers.
-abbrev pub numbersOf : Description → List ℤ
-numbersOf d =
+-- The 53 numbers that every description has.
+abbrev pub sharedNumbers : Description → List ℤ
+sharedNumbers d =
     fieldNumbers d
     ++ representationNumbers (d .representation)
     ++ (pos (indicatorOf (d .presence)) ∷ [])
     ++ startNumbers (d .starts)
+
+-- A whole description. On a Lambert grid it has 60 numbers, and the grid's own come last.
+abbrev pub numbersOf : Description → List ℤ
+numbersOf d = sharedNumbers d ++ lambertNumbers (d .grid)

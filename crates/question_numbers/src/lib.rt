@@ -1,19 +1,25 @@
-// A description and a position as rows of numbers with a sign, put into a run that is lent for them. It is how C is told what a field is.
+// A description and a place as rows of numbers with a sign, put into a run that is lent for them. It is how C is told what a field is.
 ghost use mathlib.Core.Path.{_≡_};
 ghost use Prim.Native.Nat.{_+_, _≤_, _<_};
 ghost use lib.IntN.{pos};
 ghost use lib.ListN.{length};
 ghost use Rattle.octets.specs.Numbers.{whole};
 ghost use Rattle.laws_rows.specs.Rows.{Puts};
+ghost use Rattle.section_3_geometry.specs.declared.Grid.the-variants as Grid;
+ghost use Rattle.section_3_geometry.specs.Geometry.{pointsIn};
 ghost use Rattle.section_5.specs.Representation.{templateNumber};
 ghost use Rattle.section_6.specs.Presence.{indicatorOf};
-ghost use Rattle.question_numbers.specs.Numbers.{timeNumbers, positionNumbers, gridNumbers, levelNumbers, kindNumber, productNumbers, definitionNumbers, representationNumbers, startNumbers, fieldNumbers, numbersOf};
-ghost use Rattle.question_numbers.specs.Held.{GridHeld, factorSize, RepresentationHeld, StartsHeld, Held};
+ghost use Rattle.question.specs.Judge.{descriptionLength};
+ghost use Rattle.question_numbers.specs.Numbers.{timeNumbers, positionNumbers, sheetNumbers, frameNumbers, degreeNumbers, gridNumbers, lambertNumbers, levelNumbers, kindNumber, productNumbers, definitionNumbers, representationNumbers, startNumbers, fieldNumbers, sharedNumbers, numbersOf};
+ghost use Rattle.question_numbers.specs.Held.{LambertHeld, LatitudesHeld, GridHeld, SheetHeld, factorSize, RepresentationHeld, StartsHeld, Held};
 use calendar::Time;
 use octets::Signed;
 use question::Description;
+use section_3_geometry::Frame;
 use section_3_geometry::Grid;
+use section_3_geometry::LambertGrid;
 use section_3_geometry::Position;
+use section_3_lambert::SheetPlace;
 use section_4::Kind;
 use section_4::Level;
 use section_4::Product;
@@ -126,24 +132,76 @@ fn put(run: &mut [i64], at: usize, numbers: &[i64]) -> usize
     at + done
 }
 
+fn frame_numbers(frame: Frame) -> [i64; 5]
+    requires { ⌜ pointsIn frame ≤ 16777216 ⌝ }
+    ensures { λ r. ⌜ r ≡ frameNumbers frame ⌝ }
+{
+    [
+        frame.earth as i64,
+        frame.radius as i64,
+        frame.ni as i64,
+        frame.nj as i64,
+        (frame.ni * frame.nj) as i64,
+    ]
+}
+
+// The first point; and of a grid in degrees the last one and the steps, where a Lambert grid has zeros.
+fn degree_numbers(grid: Grid) -> [i64; 6]
+    requires { ⌜ LatitudesHeld grid ⌝ }
+    ensures { λ r. ⌜ r ≡ degreeNumbers grid ⌝ }
+{
+    match grid {
+        Grid::Degrees(degrees) => {
+            let first = degrees.first;
+            let last = degrees.last;
+            [
+                signed(first.latitude),
+                first.longitude as i64,
+                signed(last.latitude),
+                last.longitude as i64,
+                degrees.di as i64,
+                degrees.dj as i64,
+            ]
+        }
+        Grid::Lambert(lambert) => {
+            let first = lambert.first;
+            [signed(first.latitude), first.longitude as i64, 0, 0, 0, 0]
+        }
+    }
+}
+
+fn lambert_numbers(grid: LambertGrid) -> [i64; 7]
+    requires { ⌜ LambertHeld grid ⌝ }
+    ensures { λ r. ⌜ r ≡ lambertNumbers (Grid.Lambert grid) ⌝ }
+{
+    [
+        30,
+        signed(grid.stated),
+        grid.upright as i64,
+        grid.dx as i64,
+        grid.dy as i64,
+        signed(grid.cut1),
+        signed(grid.cut2),
+    ]
+}
+
 fn put_grid(run: &mut [i64], at: usize, grid: Grid) -> usize
     requires { ⌜ (at + 11 ≤ length (now run)) × (GridHeld grid) ⌝ }
     ensures { λ r. ⌜ Puts (now (run .entry)) at (gridNumbers grid) (now (run .exit)) r ⌝ }
 {
-    let first = put(
-        run,
-        at,
-        &[
-            grid.earth as i64,
-            grid.radius as i64,
-            grid.ni as i64,
-            grid.nj as i64,
-            section_3_geometry::points_of(grid) as i64,
-        ],
-    );
-    let last = put(run, first, &position_numbers(grid.first));
-    let steps = put(run, last, &position_numbers(grid.last));
-    put(run, steps, &[grid.di as i64, grid.dj as i64])
+    let degrees = put(run, at, &frame_numbers(section_3_geometry::frame_of(grid)));
+    put(run, degrees, &degree_numbers(grid))
+}
+
+// Puts what a Lambert grid alone has, and nothing of a grid in degrees.
+fn put_lambert(run: &mut [i64], at: usize, grid: Grid) -> usize
+    requires { ⌜ (at + length (lambertNumbers grid) ≤ length (now run)) × (LatitudesHeld grid) ⌝ }
+    ensures { λ r. ⌜ Puts (now (run .entry)) at (lambertNumbers grid) (now (run .exit)) r ⌝ }
+{
+    match grid {
+        Grid::Degrees(_) => at,
+        Grid::Lambert(lambert) => put(run, at, &lambert_numbers(lambert)),
+    }
 }
 
 fn put_definition(run: &mut [i64], at: usize, definition: ProductDefinition) -> usize
@@ -207,15 +265,16 @@ fn put_field(run: &mut [i64], description: Description) -> usize
         0,
         &[description.discipline as i64, identification.status as i64],
     );
-    let grid = put(run, reference, &time_numbers(identification.reference));
-    let definition = put_grid(run, grid, description.grid);
+    let frame = put(run, reference, &time_numbers(identification.reference));
+    let grid = description.grid;
+    let definition = put_grid(run, frame, grid);
     put_definition(run, definition, description.definition)
 }
 
-// Puts the numbers of a description at the start of the run, and answers how many they are.
-pub fn put_description(run: &mut [i64], description: Description) -> usize
+// Puts the numbers that every description has.
+fn put_shared(run: &mut [i64], description: Description) -> usize
     requires { ⌜ (53 ≤ length (now run)) × (Held description) ⌝ }
-    ensures { λ r. ⌜ Puts (now (run .entry)) 0 (numbersOf description) (now (run .exit)) r ⌝ }
+    ensures { λ r. ⌜ Puts (now (run .entry)) 0 (sharedNumbers description) (now (run .exit)) r ⌝ }
 {
     let representation = put_field(run, description);
     let presence = put(
@@ -228,10 +287,28 @@ pub fn put_description(run: &mut [i64], description: Description) -> usize
     put(run, starts, &start_numbers(description.starts))
 }
 
+// Puts the numbers of a description at the start of the run, and answers how many they are.
+pub fn put_description(run: &mut [i64], description: Description) -> usize
+    requires { ⌜ (descriptionLength (description .grid) ≤ length (now run)) × (Held description) ⌝ }
+    ensures { λ r. ⌜ Puts (now (run .entry)) 0 (numbersOf description) (now (run .exit)) r ⌝ }
+{
+    let lambert = put_shared(run, description);
+    let grid = description.grid;
+    put_lambert(run, lambert, grid)
+}
+
 // Puts the numbers of a position at the start of the run, and answers how many they are.
 pub fn put_position(run: &mut [i64], position: Position) -> usize
     requires { ⌜ (2 ≤ length (now run)) × (position .latitude .size < 9223372036854775808) ⌝ }
     ensures { λ r. ⌜ Puts (now (run .entry)) 0 (positionNumbers position) (now (run .exit)) r ⌝ }
 {
     put(run, 0, &position_numbers(position))
+}
+
+// Puts the numbers of a place on the sheet at the start of the run, and answers how many they are.
+pub fn put_sheet(run: &mut [i64], place: SheetPlace) -> usize
+    requires { ⌜ (2 ≤ length (now run)) × (SheetHeld place) ⌝ }
+    ensures { λ r. ⌜ Puts (now (run .entry)) 0 (sheetNumbers place) (now (run .exit)) r ⌝ }
+{
+    put(run, 0, &[place.right as i64, place.down as i64])
 }

@@ -1,2 +1,2 @@
--- What the question place is answered.
+-- What the questions place and sheet are answered.
 pub mod Place

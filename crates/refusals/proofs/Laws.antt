@@ -30,10 +30,11 @@ numbered Why.ValueOutOfRange = (omega arith, omega arith)
 numbered Why.NoSuchPoint = (omega arith, omega arith)
 numbered Why.InputTooLong = (omega arith, omega arith)
 numbered Why.NotRebuildable = (omega arith, omega arith)
+numbered Why.OtherGrid = (omega arith, omega arith)
 
 -- The refusals in the order of their numbers.
 abbrev table : List Why
-table = Why.TooLong ∷ Why.Empty ∷ Why.Cut ∷ Why.NotGrib2 ∷ Why.BadLength ∷ Why.OutOfPlace ∷ Why.NoEnd ∷ Why.NoSuchField ∷ Why.BadIdentification ∷ Why.BadGrid ∷ Why.BadProduct ∷ Why.BadRepresentation ∷ Why.BadBitmap ∷ Why.BadPacking ∷ Why.NoRoom ∷ Why.ValueOutOfRange ∷ Why.NoSuchPoint ∷ Why.InputTooLong ∷ Why.NotRebuildable ∷ []
+table = Why.TooLong ∷ Why.Empty ∷ Why.Cut ∷ Why.NotGrib2 ∷ Why.BadLength ∷ Why.OutOfPlace ∷ Why.NoEnd ∷ Why.NoSuchField ∷ Why.BadIdentification ∷ Why.BadGrid ∷ Why.BadProduct ∷ Why.BadRepresentation ∷ Why.BadBitmap ∷ Why.BadPacking ∷ Why.NoRoom ∷ Why.ValueOutOfRange ∷ Why.NoSuchPoint ∷ Why.InputTooLong ∷ Why.NotRebuildable ∷ Why.OtherGrid ∷ []
 
 named : (why : Why) → getD table (numberOf why - 1) Why.TooLong ≡ why
 named Why.TooLong = refl
@@ -55,6 +56,7 @@ named Why.ValueOutOfRange = refl
 named Why.NoSuchPoint = refl
 named Why.InputTooLong = refl
 named Why.NotRebuildable = refl
+named Why.OtherGrid = refl
 
 -- Two refusals with one number are the same refusal.
 pub same-number : (a b : Why) → numberOf a ≡ numberOf b → a ≡ b
@@ -66,7 +68,7 @@ pub record InOrder : Type 0 where
   pub field : (stepsBefore order 3 < stepsBefore order 8) × (stepsBefore order 8 < stepsBefore order 9)
   pub sections : (stepsBefore order 9 < stepsBefore order 10) × (stepsBefore order 10 < stepsBefore order 11) × (stepsBefore order 11 < stepsBefore order 12)
   pub packing : (stepsBefore order 12 < stepsBefore order 13) × (stepsBefore order 13 < stepsBefore order 14)
-  pub asked : (stepsBefore order 14 < stepsBefore order 17) × (stepsBefore order 17 < stepsBefore order 15) × (stepsBefore order 15 < stepsBefore order 16)
+  pub asked : (stepsBefore order 14 < stepsBefore order 20) × (stepsBefore order 20 < stepsBefore order 17) × (stepsBefore order 17 < stepsBefore order 15) × (stepsBefore order 15 < stepsBefore order 16)
 
 pub in-order : InOrder
 unfolding stepsBefore
@@ -76,5 +78,5 @@ in-order =
       field = (lit< tt, lit< tt);
       sections = (lit< tt, lit< tt, lit< tt);
       packing = (lit< tt, lit< tt);
-      asked = (lit< tt, lit< tt, lit< tt);
+      asked = (lit< tt, lit< tt, lit< tt, lit< tt);
     }

@@ -33,6 +33,7 @@ numberOf Why.ValueOutOfRange = 16
 numberOf Why.NoSuchPoint = 17
 numberOf Why.InputTooLong = 18
 numberOf Why.NotRebuildable = 19
+numberOf Why.OtherGrid = 20
 
 -- What C is given for a refusal: 2^63 + number x 2^32 + place.
 abbrev pub codeOf : Refusal → ℕ
@@ -41,7 +42,7 @@ codeOf r = 2 ^ 63 + numberOf (r .why) * 2 ^ 32 + r .place .0
 -- The order in which refusals are tried, first to last, by their numbers: it is an order of its own, and not that of the numbers. A program's input is
 -- judged before all else; then the file's length and its tiling; then the field, its sections in force, and what is asked of the field.
 abbrev pub order : List ℕ
-order = 18 ∷ 1 ∷ 2 ∷ 3 ∷ 8 ∷ 9 ∷ 10 ∷ 11 ∷ 12 ∷ 13 ∷ 14 ∷ 17 ∷ 15 ∷ 16 ∷ 19 ∷ []
+order = 18 ∷ 1 ∷ 2 ∷ 3 ∷ 8 ∷ 9 ∷ 10 ∷ 11 ∷ 12 ∷ 13 ∷ 14 ∷ 20 ∷ 17 ∷ 15 ∷ 16 ∷ 19 ∷ []
 
 -- The faults of the tiling, 3 to 7, have one step in it, for which 3 stands: among them the file's own order decides.
 abbrev pub stepOf : ℕ → ℕ

@@ -44,6 +44,8 @@ pub enum Why {
     InputTooLong,
     // R is not finite, or E, D or X is out of its range.
     NotRebuildable,
+    // The grid is not of the kind that the question is about.
+    OtherGrid,
 }
 
 // A refusal: why, and where in the file.
@@ -76,6 +78,7 @@ pub fn number_of(why: Why) -> u64
         Why::NoSuchPoint => 17,
         Why::InputTooLong => 18,
         Why::NotRebuildable => 19,
+        Why::OtherGrid => 20,
     }
 }
 

@@ -2,7 +2,7 @@
 use mathlib.Core.Path.{_≡_, sym, ap, _∙_}
 use mathlib.Core.Bool.{Bool, true, false}
 use mathlib.Core.Logic.{_↔_}
-use Prim.Native.Nat.{ℕ, zero, suc, _-_, _*_, _≤_}
+use Prim.Native.Nat.{ℕ, zero, suc, _-_, _≤_}
 use native.Mathlib.Omega.{arith}
 use lib.Dec.{leb→le, le→leb}
 use lib.IntN.{pos, _-ℤ_}
@@ -11,28 +11,20 @@ use Rattle.octets.proofs.Cases.{both}
 use Rattle.octets.proofs.Whole.{minus-less, minus-more}
 use Rattle.octets.specs.declared.Signed.{Signed}
 use Rattle.octets.specs.Numbers.{whole, wholeOf}
-use Rattle.section_3_geometry.specs.declared.Grid.{Grid}
+use Rattle.section_3_geometry.specs.declared.DegreeGrid.{DegreeGrid}
 use Rattle.section_3_geometry.specs.Geometry.{Measured, isTaken, southOf}
-use Rattle.section_3_geometry.proofs.Tests.{counted}
+use Rattle.section_3_geometry.proofs.Tests.{Counted, counted}
 
 -- A grid that is taken has columns and rows, and its corners are places in order.
-pub taken-measured : (g : Grid) (points : ℕ) → isTaken g points ≡ true → Measured g
+pub taken-measured : (g : DegreeGrid) (points : ℕ) → isTaken g points ≡ true → Measured g
 taken-measured g points e =
     let tests = both _ _ (both _ _ e .0) in
-    let count = counted g points (tests .0) in
+    let count = counted (g .frame) points (tests .0) in
     record { columns = count .columns1; rows = count .rows1; corners = tests .1 }
 
--- It has as many points as are told, at most 16,777,216.
-pub taken-points : (g : Grid) (points : ℕ) → isTaken g points ≡ true → (points ≡ g .ni * g .nj) × (points ≤ 16777216)
-taken-points g points e =
-    let count = counted g points (both _ _ (both _ _ e .0) .0) in
-    (count .all, count .most)
-
--- It has from 1 to 65,535 columns and rows.
-pub taken-counts : (g : Grid) (points : ℕ) → isTaken g points ≡ true → (1 ≤ g .ni) × (g .ni ≤ 65535) × (1 ≤ g .nj) × (g .nj ≤ 65535)
-taken-counts g points e =
-    let count = counted g points (both _ _ (both _ _ e .0) .0) in
-    (count .columns1, count .columns65535, count .rows1, count .rows65535)
+-- It has columns and rows, and as many points as are told.
+pub taken-counted : (g : DegreeGrid) (points : ℕ) → isTaken g points ≡ true → Counted (g .frame) points
+taken-counted g points e = counted (g .frame) points (both _ _ (both _ _ e .0) .0)
 
 -- Every latitude is 90,000,000 less its distance from the north pole.
 pub south-is : (latitude : Signed) → latitude .size ≤ 90000000 → whole latitude ≡ pos 90000000 -ℤ pos (southOf latitude)

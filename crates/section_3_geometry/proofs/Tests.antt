@@ -9,30 +9,31 @@ use lib.Dec.{ltb, leb}
 use Rattle.octets.proofs.Cases.{split, both}
 use Rattle.octets.specs.declared.Signed.{Signed}
 use Rattle.section_3_geometry.specs.declared.Position.{Position}
-use Rattle.section_3_geometry.specs.declared.Grid.{Grid}
+use Rattle.section_3_geometry.specs.declared.Frame.{Frame}
+use Rattle.section_3_geometry.specs.declared.DegreeGrid.{DegreeGrid}
 use Rattle.section_3_geometry.specs.Geometry.{isCounted, isPosition, isCornered, isSpanned, isStepped, isTaken, southOf, spanEast, spanSouth}
 
 -- What is known of a grid whose points are counted, of a position, and of a grid whose corners are positions in order.
-pub record Counted (g : Grid) (points : ℕ) : Type 0 where
-  pub columns1 : 1 ≤ g .ni
-  pub columns65535 : g .ni ≤ 65535
-  pub rows1 : 1 ≤ g .nj
-  pub rows65535 : g .nj ≤ 65535
-  pub all : points ≡ g .ni * g .nj
+pub record Counted (f : Frame) (points : ℕ) : Type 0 where
+  pub columns1 : 1 ≤ f .ni
+  pub columns65535 : f .ni ≤ 65535
+  pub rows1 : 1 ≤ f .nj
+  pub rows65535 : f .nj ≤ 65535
+  pub all : points ≡ f .ni * f .nj
   pub most : points ≤ 16777216
 
 pub record Placed (p : Position) : Type 0 where
   pub latitude : p .latitude .size ≤ 90000000
   pub longitude : p .longitude ≤ 359999999
 
-pub record Cornered (g : Grid) : Type 0 where
+pub record Cornered (g : DegreeGrid) : Type 0 where
   pub first : Placed (g .first)
   pub last : Placed (g .last)
   pub southward : southOf (g .first .latitude) ≤ southOf (g .last .latitude)
 
 -- Each test tells so.
-pub counted : (g : Grid) (points : ℕ) → isCounted g points ≡ true → Counted g points
-counted g points e =
+pub counted : (f : Frame) (points : ℕ) → isCounted f points ≡ true → Counted f points
+counted f points e =
     let most = both _ _ e in
     let all = both _ _ (most .0) in
     let counts = both _ _ (all .0) in
@@ -47,21 +48,21 @@ counted g points e =
       most = leb-true _ _ (most .1);
     }
 
-pub not-counted : (g : Grid) (points : ℕ) → (Counted g points → ⊥) → isCounted g points ≡ false
-not-counted g points out = split (isCounted g points) (λ e. absurd (out (counted g points e))) (λ e. e)
+pub not-counted : (f : Frame) (points : ℕ) → (Counted f points → ⊥) → isCounted f points ≡ false
+not-counted f points out = split (isCounted f points) (λ e. absurd (out (counted f points e))) (λ e. e)
 
 -- Where the counts hold, the greatest number of points decides.
-pub most-decides : (g : Grid) (points : ℕ) →
-    (1 ≤ g .ni) × (g .ni ≤ 65535) × (1 ≤ g .nj) × (g .nj ≤ 65535) × (points ≡ g .ni * g .nj) →
-    isCounted g points ≡ leb points 16777216
-most-decides g points h = simp (le-leb _ _ (h .0), le-leb _ _ (h .1), le-leb _ _ (h .2), le-leb _ _ (h .3), eq-eqb _ _ (h .4))
+pub most-decides : (f : Frame) (points : ℕ) →
+    (1 ≤ f .ni) × (f .ni ≤ 65535) × (1 ≤ f .nj) × (f .nj ≤ 65535) × (points ≡ f .ni * f .nj) →
+    isCounted f points ≡ leb points 16777216
+most-decides f points h = simp (le-leb _ _ (h .0), le-leb _ _ (h .1), le-leb _ _ (h .2), le-leb _ _ (h .3), eq-eqb _ _ (h .4))
 
 pub placed : (p : Position) → isPosition p ≡ true → Placed p
 placed p e =
     let parts = both _ _ e in
     record { latitude = leb-true _ _ (parts .0); longitude = leb-true _ _ (parts .1) }
 
-pub cornered : (g : Grid) → isCornered g ≡ true → Cornered g
+pub cornered : (g : DegreeGrid) → isCornered g ≡ true → Cornered g
 cornered g e =
     let southward = both _ _ e in
     let places = both _ _ (southward .0) in
@@ -76,13 +77,13 @@ south-bound latitude h = go (latitude .negative) (latitude .size) h
     go false size h = omega arith
 
 -- So the spans of a grid whose corners are places in order are below a full turn, and below half a one.
-pub span-east-bound : (g : Grid) → Cornered g → spanEast g ≤ 359999999
+pub span-east-bound : (g : DegreeGrid) → Cornered g → spanEast g ≤ 359999999
 span-east-bound g corners =
     split (ltb (g .last .longitude) (g .first .longitude))
     (λ past. rw past (omega (arith, ltb-true (g .last .longitude) (g .first .longitude) past, corners .first .longitude)))
     (λ before. rw before (omega (arith, corners .last .longitude)))
 
-pub span-south-bound : (g : Grid) → Cornered g → spanSouth g ≤ 180000000
+pub span-south-bound : (g : DegreeGrid) → Cornered g → spanSouth g ≤ 180000000
 span-south-bound g corners = omega (arith, south-bound (g .last .latitude) (corners .last .latitude))
 
 -- The product of two numbers of 32 bits leaves room for the sum with a third in 64.
@@ -92,23 +93,23 @@ product-bound {a} {b} h k =
     omega arith
 
 -- The spans are tested one after the other: the one to the south decides where the one to the east has passed.
-module _ (g : Grid) where
+module _ (g : DegreeGrid) where
   abbrev passesEast : ℕ → Bool
-  passesEast span = isSpanned (g .ni - 1) (g .di) span
+  passesEast span = isSpanned (g .frame .ni - 1) (g .di) span
 
   pub east-fails : {span : ℕ} → span ≡ spanEast g → passesEast span ≡ false → isStepped g ≡ false
   east-fails is fails = rw (ap passesEast (sym is) ∙ fails)
 
-  pub south-decides : {span : ℕ} → span ≡ spanEast g → passesEast span ≡ true → isStepped g ≡ isSpanned (g .nj - 1) (g .dj) (spanSouth g)
+  pub south-decides : {span : ℕ} → span ≡ spanEast g → passesEast span ≡ true → isStepped g ≡ isSpanned (g .frame .nj - 1) (g .dj) (spanSouth g)
   south-decides is holds = rw (ap passesEast (sym is) ∙ holds)
 
 -- The three tests of a grid, in order: where the first two hold, the steps decide.
-module _ (g : Grid) (points : ℕ) where
-  pub not-counted-not-taken : isCounted g points ≡ false → isTaken g points ≡ false
+module _ (g : DegreeGrid) (points : ℕ) where
+  pub not-counted-not-taken : isCounted (g .frame) points ≡ false → isTaken g points ≡ false
   not-counted-not-taken e = rw e
 
-  pub not-cornered-not-taken : isCounted g points ≡ true → isCornered g ≡ false → isTaken g points ≡ false
+  pub not-cornered-not-taken : isCounted (g .frame) points ≡ true → isCornered g ≡ false → isTaken g points ≡ false
   not-cornered-not-taken e f = rw (e, f)
 
-  pub steps-decide : isCounted g points ≡ true → isCornered g ≡ true → isTaken g points ≡ isStepped g
+  pub steps-decide : isCounted (g .frame) points ≡ true → isCornered g ≡ true → isTaken g points ≡ isStepped g
   steps-decide e f = rw (e, f)

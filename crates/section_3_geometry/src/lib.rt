@@ -1,8 +1,8 @@
-// The numbers of a grid: which of them make one (RULES, "Section 3").
+// A field's grid, which is of one of two kinds, and the numbers that make a grid in degrees (RULES, "Section 3").
 ghost use mathlib.Core.Path.{_≡_};
 ghost use mathlib.Core.Bool.{true};
 ghost use Prim.Native.Nat.{_≤_, _<_, _^_};
-ghost use Rattle.section_3_geometry.specs.Geometry.{pointsOf, isCounted, southOf, isPosition, isCornered, spanEast, spanSouth, isSpanned, isStepped, isTaken};
+ghost use Rattle.section_3_geometry.specs.Geometry.{frameOf, pointsOf, isCounted, southOf, isPosition, isCornered, spanEast, spanSouth, isSpanned, isStepped, isTaken};
 use octets::Signed;
 
 // A place on the earth, in millionths of a degree: a latitude with its sign, and a longitude eastward from 0 to 359,999,999.
@@ -11,43 +11,85 @@ pub struct Position {
     pub longitude: u32,
 }
 
-// A grid: the earth's code and its radius in metres, Ni points in each of Nj rows, the first and the last point, and the steps Di and Dj in
-// millionths of a degree.
-pub struct Grid {
+// What both kinds of grid have: the earth's code and its radius in metres, and Ni points in each of Nj rows.
+pub struct Frame {
     pub earth: u8,
     pub radius: u32,
     pub ni: u32,
     pub nj: u32,
+}
+
+// A grid in degrees, of template 3.0: its first and its last point, and the steps Di and Dj in millionths of a degree.
+pub struct DegreeGrid {
+    pub frame: Frame,
     pub first: Position,
     pub last: Position,
     pub di: u32,
     pub dj: u32,
 }
 
-// Has the grid from 1 to 65,535 columns and rows, and as many points as are told, at most 16,777,216?
-fn is_counted(grid: Grid, points: u32) -> bool
-    ensures { λ r. ⌜ r ≡ isCounted grid points ⌝ }
+// A Lambert grid, of template 3.30: its first point; the latitude at which lengths are as stated, and the meridian that is upright on the sheet; the lengths Dx and
+// Dy in thousandths of a metre; and the two latitudes at which the cone cuts the earth.
+pub struct LambertGrid {
+    pub frame: Frame,
+    pub first: Position,
+    pub stated: Signed,
+    pub upright: u32,
+    pub dx: u32,
+    pub dy: u32,
+    pub cut1: Signed,
+    pub cut2: Signed,
+}
+
+// A field's grid.
+pub enum Grid {
+    Degrees(DegreeGrid),
+    Lambert(LambertGrid),
+}
+
+// What is the same question for both kinds: the earth, Ni and Nj.
+pub fn frame_of(grid: Grid) -> Frame
+    ensures { λ r. ⌜ r ≡ frameOf grid ⌝ }
 {
-    if grid.ni < 1 {
+    match grid {
+        Grid::Degrees(degrees) => degrees.frame,
+        Grid::Lambert(lambert) => lambert.frame,
+    }
+}
+
+// How many points a grid has.
+pub fn points_of(grid: Grid) -> u32
+    requires { ⌜ pointsOf grid ≤ 16777216 ⌝ }
+    ensures { λ r. ⌜ r ≡ pointsOf grid ⌝ }
+{
+    let frame = frame_of(grid);
+    frame.ni * frame.nj
+}
+
+// Are there from 1 to 65,535 columns and rows, and as many points as are told, at most 16,777,216?
+pub fn is_counted(frame: Frame, points: u32) -> bool
+    ensures { λ r. ⌜ r ≡ isCounted frame points ⌝ }
+{
+    if frame.ni < 1 {
         return false;
     }
-    if 65535 < grid.ni {
+    if 65535 < frame.ni {
         return false;
     }
-    if grid.nj < 1 {
+    if frame.nj < 1 {
         return false;
     }
-    if 65535 < grid.nj {
+    if 65535 < frame.nj {
         return false;
     }
-    if points != grid.ni * grid.nj {
+    if points != frame.ni * frame.nj {
         return false;
     }
     points <= 16_777_216
 }
 
 // Is it a latitude and a longitude?
-fn is_position(position: Position) -> bool
+pub fn is_position(position: Position) -> bool
     ensures { λ r. ⌜ r ≡ isPosition position ⌝ }
 {
     if 90_000_000 < position.latitude.size {
@@ -69,7 +111,7 @@ pub fn south_of(latitude: Signed) -> u64
 }
 
 // Are the first and the last point on the earth, and is the first not south of the last?
-fn is_cornered(grid: Grid) -> bool
+fn is_cornered(grid: DegreeGrid) -> bool
     ensures { λ r. ⌜ r ≡ isCornered grid ⌝ }
 {
     let first = grid.first;
@@ -84,7 +126,7 @@ fn is_cornered(grid: Grid) -> bool
 }
 
 // How far east of the first point the last one lies: past 360 degrees where its longitude is the smaller one.
-pub fn span_east(grid: Grid) -> u64
+pub fn span_east(grid: DegreeGrid) -> u64
     requires { ⌜ isCornered grid ≡ true ⌝ }
     ensures { λ r. ⌜ r ≡ spanEast grid ⌝ }
 {
@@ -98,7 +140,7 @@ pub fn span_east(grid: Grid) -> u64
 }
 
 // How far south of the first point the last one lies.
-pub fn span_south(grid: Grid) -> u64
+pub fn span_south(grid: DegreeGrid) -> u64
     requires { ⌜ isCornered grid ≡ true ⌝ }
     ensures { λ r. ⌜ r ≡ spanSouth grid ⌝ }
 {
@@ -120,33 +162,25 @@ fn is_spanned(steps: u32, step: u32, span: u64) -> bool
 }
 
 // Do the spans east and south agree with the steps?
-fn is_stepped(grid: Grid) -> bool
-    requires { ⌜ (1 ≤ grid .ni) × (grid .ni ≤ 65535) × (1 ≤ grid .nj) × (grid .nj ≤ 65535) × (isCornered grid ≡ true) ⌝ }
+fn is_stepped(grid: DegreeGrid) -> bool
+    requires { ⌜ (1 ≤ grid .frame .ni) × (grid .frame .ni ≤ 65535) × (1 ≤ grid .frame .nj) × (grid .frame .nj ≤ 65535) × (isCornered grid ≡ true) ⌝ }
     ensures { λ r. ⌜ r ≡ isStepped grid ⌝ }
 {
-    if !is_spanned(grid.ni - 1, grid.di, span_east(grid)) {
+    if !is_spanned(grid.frame.ni - 1, grid.di, span_east(grid)) {
         return false;
     }
-    is_spanned(grid.nj - 1, grid.dj, span_south(grid))
+    is_spanned(grid.frame.nj - 1, grid.dj, span_south(grid))
 }
 
-// Do these numbers make a grid with so many points?
-pub fn is_taken(grid: Grid, points: u32) -> bool
+// Do these numbers make a grid in degrees with so many points?
+pub fn is_taken(grid: DegreeGrid, points: u32) -> bool
     ensures { λ r. ⌜ r ≡ isTaken grid points ⌝ }
 {
-    if !is_counted(grid, points) {
+    if !is_counted(grid.frame, points) {
         return false;
     }
     if !is_cornered(grid) {
         return false;
     }
     is_stepped(grid)
-}
-
-// How many points a grid has.
-pub fn points_of(grid: Grid) -> u32
-    requires { ⌜ pointsOf grid ≤ 16777216 ⌝ }
-    ensures { λ r. ⌜ r ≡ pointsOf grid ⌝ }
-{
-    grid.ni * grid.nj
 }

@@ -12,21 +12,21 @@ use Rattle.octets.proofs.Whole.{minus-less, minus-more, minus-sum}
 use Rattle.octets.specs.declared.Signed.{Signed}
 use Rattle.octets.specs.Numbers.{whole}
 use Rattle.section_3_geometry.specs.declared.Position.{Position}
-use Rattle.section_3_geometry.specs.declared.Grid.{Grid}
-use Rattle.section_3_geometry.specs.Geometry.{Measured, pointsOf, isCounted, isCornered, isSpanned, isStepped, isTaken, southOf, spanEast, spanSouth}
+use Rattle.section_3_geometry.specs.declared.DegreeGrid.{DegreeGrid}
+use Rattle.section_3_geometry.specs.Geometry.{columnOf, rowOf, Measured, pointsIn, isCounted, isCornered, isSpanned, isStepped, isTaken, southOf, spanEast, spanSouth}
 use Rattle.section_3_geometry.proofs.Tests.{Cornered, cornered, south-bound}
 use Rattle.section_3_geometry.proofs.Laws.{taken-measured, south-is, south-orders}
-use Rattle.section_3_positions.specs.Positions.{columnOf, rowOf, longitudeAt, latitudeAt, LiesAt}
+use Rattle.section_3_positions.specs.Positions.{longitudeAt, latitudeAt, LiesAt}
 use Rattle.section_3_positions.specs.Expected.{AsExpected}
 use Rattle.section_3_positions.specs.Quotients.{awayOf, positionOf}
 use Rattle.section_3_positions.proofs.Nearest.{away-of, away-once, first-away, last-away, away-orders, away-inside, away-near}
 
 -- The code's position is where the point lies, and the point lies nowhere else.
-pub position-lies : (g : Grid) (n : ℕ) → LiesAt g n (positionOf g n)
+pub position-lies : (g : DegreeGrid) (n : ℕ) → LiesAt g n (positionOf g n)
 position-lies g n =
     record {
-      east = awayOf (g .ni) (spanEast g) (columnOf g n);
-      south = awayOf (g .nj) (spanSouth g) (rowOf g n);
+      east = awayOf (g .frame .ni) (spanEast g) (columnOf (g .frame) n);
+      south = awayOf (g .frame .nj) (spanSouth g) (rowOf (g .frame) n);
       column = away-of;
       row = away-of;
       longitude = refl;
@@ -36,7 +36,7 @@ position-lies g n =
 abbrev position : Signed → ℕ → Position
 position latitude longitude = record { latitude = latitude; longitude = longitude }
 
-pub lies-once : (g : Grid) (n : ℕ) {p q : Position} → 1 ≤ g .ni → 1 ≤ g .nj → LiesAt g n p → LiesAt g n q → p ≡ q
+pub lies-once : (g : DegreeGrid) (n : ℕ) {p q : Position} → 1 ≤ g .frame .ni → 1 ≤ g .frame .nj → LiesAt g n p → LiesAt g n q → p ≡ q
 lies-once g n {p} {q} columns rows k l =
     let longitude = k .longitude ∙ ap (λ (east : ℕ). longitudeAt (g .first .longitude + east)) (away-once columns (k .column) (l .column)) ∙ sym (l .longitude) in
     let latitude = k .latitude ∙ ap (λ (south : ℕ). latitudeAt (southOf (g .first .latitude) + south)) (away-once rows (k .row) (l .row)) ∙ sym (l .latitude) in
@@ -52,7 +52,7 @@ latitude-at-is south =
     (λ e. rw e (sym (minus-less 90000000 south (ltb-false 90000000 south e))))
 
 -- So a point lies its row's distance below the first latitude, in whole numbers with a sign.
-pub latitude-is : {g : Grid} {n : ℕ} {p : Position} → g .first .latitude .size ≤ 90000000 → (l : LiesAt g n p) → whole (p .latitude) ≡ whole (g .first .latitude) -ℤ pos (l .south)
+pub latitude-is : {g : DegreeGrid} {n : ℕ} {p : Position} → g .first .latitude .size ≤ 90000000 → (l : LiesAt g n p) → whole (p .latitude) ≡ whole (g .first .latitude) -ℤ pos (l .south)
 latitude-is {g} first l =
     ap whole (l .latitude)
     ∙ latitude-at-is (southOf (g .first .latitude) + l .south)
@@ -70,11 +70,11 @@ south-back south few =
     (λ before. rw before (omega (arith, ltb-false 90000000 south before)))
 
 -- What is known of a grid that is taken: its steps are as many as its spans allow, so that a single column, or row, has no span.
-spans : (g : Grid) (points : ℕ) → isTaken g points ≡ true → (spanEast g ≤ (g .ni - 1) * g .di + (g .ni - 1)) × (spanSouth g ≤ (g .nj - 1) * g .dj + (g .nj - 1))
+spans : (g : DegreeGrid) (points : ℕ) → isTaken g points ≡ true → (spanEast g ≤ (g .frame .ni - 1) * g .di + (g .frame .ni - 1)) × (spanSouth g ≤ (g .frame .nj - 1) * g .dj + (g .frame .nj - 1))
 spans g points taken =
-    let columns = g .ni - 1 in
-    let rows = g .nj - 1 in
-    let stepped = both (isSpanned columns (g .di) (spanEast g)) (isSpanned rows (g .dj) (spanSouth g)) (both (isCounted g points && isCornered g) (isStepped g) taken .1) in (
+    let columns = g .frame .ni - 1 in
+    let rows = g .frame .nj - 1 in
+    let stepped = both (isSpanned columns (g .di) (spanEast g)) (isSpanned rows (g .dj) (spanSouth g)) (both (isCounted (g .frame) points && isCornered g) (isStepped g) taken .1) in (
       leb-true (spanEast g) (columns * g .di + columns) (both (leb (spanEast g) (columns * g .di + columns)) (leb (columns * g .di) (spanEast g + columns)) (stepped .0) .0),
       leb-true (spanSouth g) (rows * g .dj + rows) (both (leb (spanSouth g) (rows * g .dj + rows)) (leb (rows * g .dj) (spanSouth g + rows)) (stepped .1) .0),
     )
@@ -83,44 +83,44 @@ no-steps : (count step span : ℕ) → span ≤ (count - 1) * step + (count - 1)
 no-steps count step span most one = omega (arith, rw one at most)
 
 -- The first longitude and the span east of it lead to the last.
-east-reaches : (g : Grid) → Cornered g → longitudeAt (g .first .longitude + spanEast g) ≡ g .last .longitude
+east-reaches : (g : DegreeGrid) → Cornered g → longitudeAt (g .first .longitude + spanEast g) ≡ g .last .longitude
 east-reaches g corners =
     split (ltb (g .last .longitude) (g .first .longitude))
     (λ past. rw past (omega (arith, ltb-true (g .last .longitude) (g .first .longitude) past, corners .first .longitude, corners .last .longitude)))
     (λ before. rw before (omega (arith, ltb-false (g .last .longitude) (g .first .longitude) before, corners .last .longitude)))
 
-module _ (g : Grid) (points : ℕ) (taken : isTaken g points ≡ true) where
+module _ (g : DegreeGrid) (points : ℕ) (taken : isTaken g points ≡ true) where
   measured : Measured g
   measured = taken-measured g points taken
 
   corners : Cornered g
   corners = cornered g (measured .corners)
 
-  flatEast : g .ni ≡ 1 → spanEast g ≡ 0
-  flatEast = no-steps (g .ni) (g .di) (spanEast g) (spans g points taken .0)
+  flatEast : g .frame .ni ≡ 1 → spanEast g ≡ 0
+  flatEast = no-steps (g .frame .ni) (g .di) (spanEast g) (spans g points taken .0)
 
-  flatSouth : g .nj ≡ 1 → spanSouth g ≡ 0
-  flatSouth = no-steps (g .nj) (g .dj) (spanSouth g) (spans g points taken .1)
+  flatSouth : g .frame .nj ≡ 1 → spanSouth g ≡ 0
+  flatSouth = no-steps (g .frame .nj) (g .dj) (spanSouth g) (spans g points taken .1)
 
   -- A point of the grid is in one of its rows, so that it lies no farther south than the last.
-  row-inside : {n : ℕ} → n < pointsOf g → rowOf g n < g .nj
-  row-inside {n} inside = div-lt-iff-lt-mul {k = g .ni} {x = n} {y = g .nj} (measured .columns) .1 (omega (arith, inside, mul-comm (g .ni) (g .nj)))
+  row-inside : {n : ℕ} → n < pointsIn (g .frame) → rowOf (g .frame) n < g .frame .nj
+  row-inside {n} inside = div-lt-iff-lt-mul {k = g .frame .ni} {x = n} {y = g .frame .nj} (measured .columns) .1 (omega (arith, inside, mul-comm (g .frame .ni) (g .frame .nj)))
 
-  inside-row : {n : ℕ} → rowOf g n < g .nj → n < pointsOf g
-  inside-row {n} inside = omega (arith, div-lt-iff-lt-mul {k = g .ni} {x = n} {y = g .nj} (measured .columns) .0 inside, mul-comm (g .ni) (g .nj))
+  inside-row : {n : ℕ} → rowOf (g .frame) n < g .frame .nj → n < pointsIn (g .frame)
+  inside-row {n} inside = omega (arith, div-lt-iff-lt-mul {k = g .frame .ni} {x = n} {y = g .frame .nj} (measured .columns) .0 inside, mul-comm (g .frame .ni) (g .frame .nj))
 
   module _ {n : ℕ} {p : Position} (l : LiesAt g n p) where
     -- How far south of the north pole a point of the grid lies.
-    south-inside : n < pointsOf g → southOf (g .first .latitude) + l .south ≤ southOf (g .last .latitude)
+    south-inside : n < pointsIn (g .frame) → southOf (g .first .latitude) + l .south ≤ southOf (g .last .latitude)
     south-inside inside = omega (arith, away-inside (measured .rows) flatSouth (row-inside inside) (l .row), corners .southward)
 
-    south-most : n < pointsOf g → southOf (g .first .latitude) + l .south ≤ 180000000
+    south-most : n < pointsIn (g .frame) → southOf (g .first .latitude) + l .south ≤ 180000000
     south-most inside = omega (arith, south-inside inside, south-bound (g .last .latitude) (corners .last .latitude))
 
-    size-most : n < pointsOf g → p .latitude .size ≤ 90000000
+    size-most : n < pointsIn (g .frame) → p .latitude .size ≤ 90000000
     size-most inside = rw (l .latitude) (at-most _ (south-most inside))
 
-    south-told : n < pointsOf g → southOf (p .latitude) ≡ southOf (g .first .latitude) + l .south
+    south-told : n < pointsIn (g .frame) → southOf (p .latitude) ≡ southOf (g .first .latitude) + l .south
     south-told inside = rw (l .latitude) (south-back _ (south-most inside))
 
     -- A point whose distance from the pole is a latitude's has that latitude, in whole numbers with a sign.
@@ -146,7 +146,7 @@ module _ (g : Grid) (points : ℕ) (taken : isTaken g points ≡ true) where
         nearRow = λ l. away-near (measured .rows) flatSouth (l .row);
         eastward = λ l k before. away-orders (measured .columns) flatEast before (l .column) (k .column);
         southward = λ {m} {n} {p} {q} l k before inside.
-            let earlier : m < pointsOf g = inside-row (omega (arith, before, row-inside inside)) in
+            let earlier : m < pointsIn (g .frame) = inside-row (omega (arith, before, row-inside inside)) in
             south-orders (p .latitude) (q .latitude) (size-most l earlier) (size-most k inside) .0
             (omega (arith, south-told l earlier, south-told k inside, away-orders (measured .rows) flatSouth before (l .row) (k .row)));
         notPastEast = λ {n} l. away-inside (measured .columns) flatEast (mod-lt n (measured .columns)) (l .column);

@@ -1,19 +1,12 @@
 -- RULES, "Section 3": where point n of a grid lies. A grid's points are counted along its rows, and spread evenly between its first and its last.
-use Prim.Native.Nat.{ℕ, _+_, _-_, _*_, _/_, _%_, _≤_, _<_}
+use Prim.Native.Nat.{ℕ, _+_, _-_, _*_, _%_, _≤_, _<_}
 use mathlib.Core.Path.{_≡_}
 use mathlib.Core.Bool.{cond}
 use lib.Dec.{ltb}
 use Rattle.octets.specs.declared.Signed.{Signed}
 use Rattle.section_3_geometry.specs.declared.Position.{Position}
-use Rattle.section_3_geometry.specs.declared.Grid.{Grid}
-use Rattle.section_3_geometry.specs.Geometry.{southOf, spanEast, spanSouth}
-
--- Point n is in column n mod Ni and row n div Ni.
-abbrev pub columnOf : Grid → ℕ → ℕ
-columnOf g n = n % g .ni
-
-abbrev pub rowOf : Grid → ℕ → ℕ
-rowOf g n = n / g .ni
+use Rattle.section_3_geometry.specs.declared.DegreeGrid.{DegreeGrid}
+use Rattle.section_3_geometry.specs.Geometry.{columnOf, rowOf, southOf, spanEast, spanSouth}
 
 -- How far apart two numbers are.
 abbrev pub gap : ℕ → ℕ → ℕ
@@ -39,10 +32,10 @@ abbrev pub latitudeAt : ℕ → Signed
 latitudeAt south = record { negative = ltb 90000000 south; size = cond (ltb 90000000 south) (south - 90000000) (90000000 - south) }
 
 -- Where point n lies: so far east of the first point as its column is away, and so far south as its row is.
-pub record LiesAt (g : Grid) (n : ℕ) (p : Position) : Type 0 where
+pub record LiesAt (g : DegreeGrid) (n : ℕ) (p : Position) : Type 0 where
   pub east : ℕ
   pub south : ℕ
-  pub column : Away (g .ni) (spanEast g) (columnOf g n) east
-  pub row : Away (g .nj) (spanSouth g) (rowOf g n) south
+  pub column : Away (g .frame .ni) (spanEast g) (columnOf (g .frame) n) east
+  pub row : Away (g .frame .nj) (spanSouth g) (rowOf (g .frame) n) south
   pub longitude : p .longitude ≡ longitudeAt (g .first .longitude + east)
   pub latitude : p .latitude ≡ latitudeAt (southOf (g .first .latitude) + south)

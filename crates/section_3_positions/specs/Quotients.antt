@@ -4,9 +4,9 @@ use mathlib.Core.Bool.{cond}
 use lib.Dec.{leb}
 use Rattle.octets.specs.declared.Signed.{Signed}
 use Rattle.section_3_geometry.specs.declared.Position.{Position}
-use Rattle.section_3_geometry.specs.declared.Grid.{Grid}
-use Rattle.section_3_geometry.specs.Geometry.{southOf, spanEast, spanSouth}
-use Rattle.section_3_positions.specs.Positions.{columnOf, rowOf, longitudeAt, latitudeAt}
+use Rattle.section_3_geometry.specs.declared.DegreeGrid.{DegreeGrid}
+use Rattle.section_3_geometry.specs.Geometry.{columnOf, rowOf, southOf, spanEast, spanSouth}
+use Rattle.section_3_positions.specs.Positions.{longitudeAt, latitudeAt}
 
 -- The whole part of a / b + 1/2.
 abbrev pub rounded : ℕ → ℕ → ℕ
@@ -16,12 +16,12 @@ rounded a b = (2 * a + b) / (2 * b)
 abbrev pub awayOf : ℕ → ℕ → ℕ → ℕ
 awayOf count span i = cond (leb count 1) 0 (rounded (i * span) (count - 1))
 
-abbrev pub longitudeOf : Grid → ℕ → ℕ
-longitudeOf g i = longitudeAt (g .first .longitude + awayOf (g .ni) (spanEast g) i)
+abbrev pub longitudeOf : DegreeGrid → ℕ → ℕ
+longitudeOf g i = longitudeAt (g .first .longitude + awayOf (g .frame .ni) (spanEast g) i)
 
-abbrev pub latitudeOf : Grid → ℕ → Signed
-latitudeOf g j = latitudeAt (southOf (g .first .latitude) + awayOf (g .nj) (spanSouth g) j)
+abbrev pub latitudeOf : DegreeGrid → ℕ → Signed
+latitudeOf g j = latitudeAt (southOf (g .first .latitude) + awayOf (g .frame .nj) (spanSouth g) j)
 
 -- Where point n lies.
-abbrev pub positionOf : Grid → ℕ → Position
-positionOf g n = record { latitude = latitudeOf g (rowOf g n); longitude = longitudeOf g (columnOf g n) }
+abbrev pub positionOf : DegreeGrid → ℕ → Position
+positionOf g n = record { latitude = latitudeOf g (rowOf (g .frame) n); longitude = longitudeOf g (columnOf (g .frame) n) }

@@ -5,7 +5,7 @@ ghost use Rattle.section_3_geometry.specs.Geometry.{Measured};
 ghost use Rattle.section_3_positions.specs.Positions.{Away, latitudeAt};
 ghost use Rattle.section_3_positions.specs.Quotients.{positionOf};
 use octets::Signed;
-use section_3_geometry::Grid;
+use section_3_geometry::DegreeGrid;
 use section_3_geometry::Position;
 
 // The latitude that lies so far south of the north pole.
@@ -37,13 +37,21 @@ fn away(count: u32, span: u64, i: u32) -> u64
 }
 
 // Where point `n` of the grid lies.
-pub fn position_of(grid: Grid, n: u32) -> Position
+pub fn position_of(grid: DegreeGrid, n: u32) -> Position
     requires { ⌜ Measured grid ⌝ }
     ensures { λ r. ⌜ r ≡ positionOf grid n ⌝ }
 {
     let first = grid.first;
-    let east = away(grid.ni, section_3_geometry::span_east(grid), n % grid.ni);
-    let south = away(grid.nj, section_3_geometry::span_south(grid), n / grid.ni);
+    let east = away(
+        grid.frame.ni,
+        section_3_geometry::span_east(grid),
+        n % grid.frame.ni,
+    );
+    let south = away(
+        grid.frame.nj,
+        section_3_geometry::span_south(grid),
+        n / grid.frame.ni,
+    );
     let longitude = ((first.longitude as u64 + east) % 360_000_000) as u32;
     let latitude = latitude_at(section_3_geometry::south_of(first.latitude) + south);
     Position {

@@ -5,16 +5,21 @@ use mathlib.Core.List.{List}
 use lib.IntN.{ℤ}
 use lib.ListN.{length}
 use Rattle.laws_rows.specs.Rows.{laid}
+use Rattle.refusals.specs.declared.Refusal.{Refusal}
 use Rattle.refusals.specs.Refusals.{codeOf}
 use Rattle.tiling.specs.declared.Checked.{Checked}
 use Rattle.tiling.specs.declared.Checked.the-variants as Checked
 use Rattle.section_3_positions.specs.Quotients.{positionOf}
-use Rattle.question.specs.declared.Description.{Description}
+use Rattle.section_3_lambert.specs.Sheet.{sheetOf}
 use Rattle.question.specs.declared.Described.{Described}
 use Rattle.question.specs.declared.Described.the-variants as Described
-use Rattle.question.specs.declared.Asks.the-variants as Asks
-use Rattle.question.specs.Judge.{judge}
-use Rattle.question_numbers.specs.Numbers.{positionNumbers}
+use Rattle.question.specs.Judge.{Asks, judge}
+use Rattle.question_place.specs.declared.OnDegrees.{OnDegrees}
+use Rattle.question_place.specs.declared.OnDegrees.the-variants as OnDegrees
+use Rattle.question_place.specs.declared.OnLambert.{OnLambert}
+use Rattle.question_place.specs.declared.OnLambert.the-variants as OnLambert
+use Rattle.question_place.specs.Place.{onDegrees, onLambert}
+use Rattle.question_numbers.specs.Numbers.{positionNumbers, sheetNumbers, numbersOf}
 use Rattle.question_decode.specs.declared.Decoded.{Decoded}
 use Rattle.question_decode.specs.declared.Decoded.the-variants as Decoded
 
@@ -27,23 +32,40 @@ abbrev pub decodeCode : Decoded → ℕ
 decodeCode (Decoded.Points points) = points
 decodeCode (Decoded.Refused r) = codeOf r
 
--- Describe and place put numbers at the start of a run, and answer with how many they are. The rest of the run stays as it was, and all of it where the
--- question is refused.
-abbrev pub numbersCode : (Description → List ℤ) → Described → ℕ
-numbersCode told (Described.As d) = length (told d)
-numbersCode told (Described.Refused r) = codeOf r
+-- Describe, place and sheet are answered in numbers, or refused.
+pub data Answer : Type 0 where
+  numbers : List ℤ → Answer
+  refused : Refusal → Answer
 
-abbrev pub numbersLeft : (Description → List ℤ) → List ℤ → Described → List ℤ
-numbersLeft told run (Described.As d) = laid run 0 (told d)
-numbersLeft told run (Described.Refused r) = run
+-- The numbers are put at the start of a run, and the answer is how many they are. The rest of the run stays as it was, and all of it where the question is
+-- refused.
+abbrev pub numbersCode : Answer → ℕ
+numbersCode (numbers told) = length told
+numbersCode (refused r) = codeOf r
 
--- The numbers of where point n lies.
-abbrev pub positionIn : ℕ → Description → List ℤ
-positionIn n d = positionNumbers (positionOf (d .grid) n)
+abbrev pub numbersLeft : List ℤ → Answer → List ℤ
+numbersLeft run (numbers told) = laid run 0 told
+numbersLeft run (refused r) = run
 
--- What is judged of the two questions, where this run is lent for the numbers.
-abbrev pub describedFor : List ℕ → ℕ → List ℤ → Described
-describedFor file k run = judge file k (Asks.Numbers (length run))
+-- What is answered: the numbers of field k's description; the latitude and the longitude of its point n; how far that point lies to the right and down on the sheet.
+abbrev pub describedAs : Described → Answer
+describedAs (Described.As d) = numbers (numbersOf d)
+describedAs (Described.Refused r) = refused r
 
-abbrev pub placedFor : List ℕ → ℕ → ℕ → List ℤ → Described
-placedFor file k n run = judge file k (Asks.Position n (length run))
+abbrev pub placedAs : ℕ → OnDegrees → Answer
+placedAs n (OnDegrees.Grid g) = numbers (positionNumbers (positionOf g n))
+placedAs n (OnDegrees.Refused r) = refused r
+
+abbrev pub sheetAs : ℕ → OnLambert → Answer
+sheetAs n (OnLambert.Grid g) = numbers (sheetNumbers (sheetOf g n))
+sheetAs n (OnLambert.Refused r) = refused r
+
+-- The answers to the three questions, where this run is lent for the numbers.
+abbrev pub describedFor : List ℕ → ℕ → List ℤ → Answer
+describedFor file k run = describedAs (judge file k (Asks.Numbers (length run)))
+
+abbrev pub placedFor : List ℕ → ℕ → ℕ → List ℤ → Answer
+placedFor file k n run = placedAs n (onDegrees file k n (length run))
+
+abbrev pub sheetFor : List ℕ → ℕ → ℕ → List ℤ → Answer
+sheetFor file k n run = sheetAs n (onLambert file k n (length run))

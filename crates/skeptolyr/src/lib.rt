@@ -3,11 +3,11 @@ ghost use mathlib.Core.Path.{_≡_};
 ghost use lib.ListN.{length};
 ghost use Rattle.tiling.specs.Tiling.{check};
 ghost use Rattle.question_decode.specs.Decoding.{answer, valuesLeft, presenceLeft};
-ghost use Rattle.question_numbers.specs.Numbers.{numbersOf};
-ghost use Rattle.skeptolyr.specs.Codes.{checkCode, decodeCode, numbersCode, numbersLeft, positionIn, describedFor, placedFor};
-use question::Asks;
+ghost use Rattle.skeptolyr.specs.Codes.{checkCode, decodeCode, numbersCode, numbersLeft, describedFor, placedFor, sheetFor};
 use question::Described;
 use question_decode::Decoded;
+use question_place::OnDegrees;
+use question_place::OnLambert;
 use tiling::Checked;
 
 // Checks a file: messages x 2^32 + fields, or 2^63 + number x 2^32 + place.
@@ -43,10 +43,10 @@ pub extern "C" fn skeptolyr_decode(
 // Describes field `k`: puts its numbers at the start of the run and answers how many they are, or 2^63 + number x 2^32 + place.
 #[no_mangle]
 pub extern "C" fn skeptolyr_describe(file: &[u8], k: usize, numbers: &mut [i64]) -> u64
-    ensures { λ r. ⌜ r ≡ numbersCode numbersOf (describedFor (now (file .entry)) k (now (numbers .entry))) ⌝ }
-    ensures { λ _. ⌜ now (numbers .exit) ≡ numbersLeft numbersOf (now (numbers .entry)) (describedFor (now (file .entry)) k (now (numbers .entry))) ⌝ }
+    ensures { λ r. ⌜ r ≡ numbersCode (describedFor (now (file .entry)) k (now (numbers .entry))) ⌝ }
+    ensures { λ _. ⌜ now (numbers .exit) ≡ numbersLeft (now (numbers .entry)) (describedFor (now (file .entry)) k (now (numbers .entry))) ⌝ }
 {
-    match question::judge(file, k, Asks::Numbers(numbers.len())) {
+    match question::judge_numbers(file, k, numbers.len()) {
         Described::As(description) => {
             question_numbers::put_description(numbers, description) as u64
         }
@@ -57,19 +57,29 @@ pub extern "C" fn skeptolyr_describe(file: &[u8], k: usize, numbers: &mut [i64])
 // Places point `n` of field `k`: puts its latitude and its longitude at the start of the run and answers 2, or 2^63 + number x 2^32 + place.
 #[no_mangle]
 pub extern "C" fn skeptolyr_place(file: &[u8], k: usize, n: usize, position: &mut [i64]) -> u64
-    ensures { λ r. ⌜ r ≡ numbersCode (positionIn n) (placedFor (now (file .entry)) k n (now (position .entry))) ⌝ }
-    ensures { λ _. ⌜ now (position .exit) ≡ numbersLeft (positionIn n) (now (position .entry)) (placedFor (now (file .entry)) k n (now (position .entry))) ⌝ }
+    ensures { λ r. ⌜ r ≡ numbersCode (placedFor (now (file .entry)) k n (now (position .entry))) ⌝ }
+    ensures { λ _. ⌜ now (position .exit) ≡ numbersLeft (now (position .entry)) (placedFor (now (file .entry)) k n (now (position .entry))) ⌝ }
 {
-    let asks = Asks::Position {
-        n,
-        room: position.len(),
-    };
-    match question::judge(file, k, asks) {
-        Described::As(description) => {
-            let grid = description.grid;
+    match question_place::on_degrees(file, k, n, position.len()) {
+        OnDegrees::Grid(grid) => {
             let lies = section_3_positions::position_of(grid, n as u32);
             question_numbers::put_position(position, lies) as u64
         }
-        Described::Refused(refusal) => refusals::code_of(refusal),
+        OnDegrees::Refused(refusal) => refusals::code_of(refusal),
+    }
+}
+
+// Places point `n` of field `k` on the sheet: puts how far it lies to the right and down at the start of the run and answers 2, or 2^63 + number x 2^32 + place.
+#[no_mangle]
+pub extern "C" fn skeptolyr_sheet(file: &[u8], k: usize, n: usize, place: &mut [i64]) -> u64
+    ensures { λ r. ⌜ r ≡ numbersCode (sheetFor (now (file .entry)) k n (now (place .entry))) ⌝ }
+    ensures { λ _. ⌜ now (place .exit) ≡ numbersLeft (now (place .entry)) (sheetFor (now (file .entry)) k n (now (place .entry))) ⌝ }
+{
+    match question_place::on_lambert(file, k, n, place.len()) {
+        OnLambert::Grid(grid) => {
+            let lies = section_3_lambert::sheet_of(grid, n as u32);
+            question_numbers::put_sheet(place, lies) as u64
+        }
+        OnLambert::Refused(refusal) => refusals::code_of(refusal),
     }
 }

@@ -22,24 +22,36 @@ use Rattle.question.specs.Describe as Describe
 use Rattle.question_decode.specs.declared.Decoded as declaredDecoded
 use Rattle.question_decode.specs.declared.Decoded.the-variants as Decoded
 use Rattle.question_decode.proofs.Laws.{Small as DecodedSmall, decode-small}
-use Rattle.question.specs.declared.Asks.the-variants as Asks
-use Rattle.question.specs.Judge.{judge}
+use Rattle.question.specs.Judge.{Asks, descriptionLength, judge}
+use Rattle.section_3_geometry.specs.declared.Grid.{Grid}
+use Rattle.section_3_geometry.specs.declared.Grid.the-variants as Grid
 use Rattle.section_3_positions.specs.Quotients.{positionOf}
 use Rattle.section_3_positions.proofs.Laws.{position-lies}
-use Rattle.question.proofs.Laws.{judge-placed, judged-numbers, judged-position}
+use Rattle.question.proofs.Laws.{judge-placed, judged-numbers}
+use Rattle.question_place.specs.declared.OnDegrees.{OnDegrees}
+use Rattle.question_place.specs.declared.OnDegrees.the-variants as OnDegrees
+use Rattle.question_place.specs.declared.OnLambert.{OnLambert}
+use Rattle.question_place.specs.declared.OnLambert.the-variants as OnLambert
+use Rattle.question_place.specs.Place.{onDegrees, onLambert}
+use Rattle.question_place.proofs.Laws.{judged-degrees, judged-lambert, degrees-placed, lambert-placed}
 use Rattle.question_numbers.specs.Numbers.{numbersOf}
 use Rattle.question_numbers.proofs.Laws.{description-length}
-use Rattle.skeptolyr.specs.Codes.{checkCode, decodeCode, numbersCode, numbersLeft, positionIn}
+use Rattle.skeptolyr.specs.Codes.{checkCode, decodeCode, numbersCode, numbersLeft, describedAs, placedAs, sheetAs, describedFor, placedFor, sheetFor}
 use Rattle.listing_file.specs.declared.Printout.{Printout}
 use Rattle.listing_file.specs.Listing.{mostOctets, lineOf, linesOf, checkedText, listingOf, Prints}
-use Rattle.theorems_demands.specs.Questions.{Question, verdict, refusedBy, ofChecked, ofDescribed, ofDecoded, check, describe, describeInto, placeInto}
-use Rattle.theorems_demands.specs.Demand2.{BothRuns, Call, answerTo, leftBehind}
+use Rattle.theorems_demands.specs.Questions.{Question, verdict, refusedBy, ofChecked, ofDescribed, ofDegrees, ofLambert, ofDecoded, check, describe, describeInto, placeInto, sheetInto}
+use Rattle.theorems_demands.specs.Demand2.{BothRuns, Call, HasPoint, answerTo, leftBehind}
 use Rattle.theorems_demands.proofs.Demand1.{demand-1}
 use Rattle.theorems_demands.proofs.Demand2.{demand-2}
 use Rattle.theorems_demands.proofs.Demand3.{demand-3}
 use Rattle.theorems_outcomes.proofs.Facts.{from-one, from-two, from-three}
-use Rattle.theorems_calls.specs.Calls.{Refuses, Checks, decodeOf, runsOf, callOf, DecodeKeeps, DescribeKeeps, PlaceKeeps, Line, Lines, Listed, ListingPrints, Calls, RattleCalls}
+use Rattle.theorems_calls.specs.Calls.{Refuses, Checks, decodeOf, runsOf, callOf, DecodeKeeps, DescribeKeeps, OnGrid, PlaceKeeps, SheetKeeps, Line, Lines, Listed, ListingPrints, Calls, RattleCalls}
 use Rattle.theorems_calls.specs.Calls as Spec
+
+-- A description has few numbers.
+few-numbers : (g : Grid) → descriptionLength g ≤ 60
+few-numbers (Grid.Degrees g) = omega arith
+few-numbers (Grid.Lambert g) = omega arith
 
 module _ (file : List ℕ) where
   -- A refusal whose place fits is told by its number and its place.
@@ -95,15 +107,14 @@ module _ (file : List ℕ) where
       let same : leftBehind file c ≡ left = λ i. record { values = sym v i; presence = sym p i } in
       subst (λ (n : ℕ). DecodeKeeps file c n left) (sym e) (subst (DecodeKeeps file c (decodeCode (answerTo file c))) same (decodes-so c))
 
-  describes-so : (k : ℕ) (before : List ℤ) →
-      let told = judge file k (Asks.Numbers (length before)) in DescribeKeeps file k before (numbersCode numbersOf told) (numbersLeft numbersOf before told)
+  describes-so : (k : ℕ) (before : List ℤ) → DescribeKeeps file k before (numbersCode (describedFor file k before)) (numbersLeft before (describedFor file k before))
   describes-so k before = by (judge file k (Asks.Numbers (length before))) refl
     where
-      by : (a : declaredDescribed.Described) → judge file k (Asks.Numbers (length before)) ≡ a → DescribeKeeps file k before (numbersCode numbersOf a) (numbersLeft numbersOf before a)
+      by : (a : declaredDescribed.Described) → judge file k (Asks.Numbers (length before)) ≡ a → DescribeKeeps file k before (numbersCode (describedAs a)) (numbersLeft before (describedAs a))
       by (Described.As d) said =
           let known = demand-2 file .describes k d .0 (judged-numbers file k (length before) said .0) in
           record {
-            refused = λ top. absurd (omega (arith, description-length d, top));
+            refused = λ top. absurd (omega (arith, description-length d, few-numbers (d .grid), top));
             answered = λ _. demand-1 file .answers (describeInto k (length before)) .0 (ap ofDescribed said);
             described = λ _. (known .0, d, known .1, known .2, (refl, sym (zero-add (length (numbersOf d)))));
           }
@@ -114,22 +125,44 @@ module _ (file : List ℕ) where
             described = λ below. absurd (omega (arith, below));
           }
 
-  places-so : (k n : ℕ) (before : List ℤ) →
-      let told = judge file k (Asks.Position n (length before)) in PlaceKeeps file k n before (numbersCode (positionIn n) told) (numbersLeft (positionIn n) before told)
-  places-so k n before = by (judge file k (Asks.Position n (length before))) refl
+  -- The grid of a field on which a point is told.
+  on-grid : (k n : ℕ) {g : Grid} → HasPoint file k n g → OnGrid file k n g
+  on-grid k n has =
+      let known = demand-2 file .describes k (has .d) .0 (has .describes) in
+      record { l = known .0; d = has .d; lies = known .1; judged = known .2; grid = has .grid; below = has .below }
+
+  places-so : (k n : ℕ) (before : List ℤ) → PlaceKeeps file k n before (numbersCode (placedFor file k n before)) (numbersLeft before (placedFor file k n before))
+  places-so k n before = by (onDegrees file k n (length before)) refl
     where
-      by : (a : declaredDescribed.Described) → judge file k (Asks.Position n (length before)) ≡ a → PlaceKeeps file k n before (numbersCode (positionIn n) a) (numbersLeft (positionIn n) before a)
-      by (Described.As d) said =
-          let asked = judged-position file k n (length before) said in
-          let known = demand-2 file .describes k d .0 (asked .0) in
+      by : (o : OnDegrees) → onDegrees file k n (length before) ≡ o → PlaceKeeps file k n before (numbersCode (placedAs n o)) (numbersLeft before (placedAs n o))
+      by (OnDegrees.Grid g) said =
+          let known = judged-degrees file k n (length before) said in
           record {
             refused = λ top. absurd (omega (arith, top));
-            answered = λ _. demand-1 file .answers (placeInto k n (length before)) .0 (ap ofDescribed said);
-            placed = λ _. (known .0, d, positionOf (d .grid) n, known .1, known .2, asked .1, position-lies (d .grid) n, (refl, refl));
+            answered = λ _. demand-1 file .answers (placeInto k n (length before)) .0 (ap ofDegrees said);
+            placed = λ _. (g, positionOf g n, on-grid k n (record { d = known .d; describes = known .describes; grid = known .kind; below = known .below }), position-lies g n, (refl, refl));
           }
-      by (Described.Refused r) said =
+      by (OnDegrees.Refused r) said =
           record {
-            refused = λ _. (refuses-so (placeInto k n (length before)) r (ap ofDescribed said) (omega (arith, judge-placed file k (Asks.Position n (length before)) said)), refl);
+            refused = λ _. (refuses-so (placeInto k n (length before)) r (ap ofDegrees said) (omega (arith, degrees-placed file k n (length before) said)), refl);
+            answered = λ below. absurd (omega (arith, below));
+            placed = λ below. absurd (omega (arith, below));
+          }
+
+  sheets-so : (k n : ℕ) (before : List ℤ) → SheetKeeps file k n before (numbersCode (sheetFor file k n before)) (numbersLeft before (sheetFor file k n before))
+  sheets-so k n before = by (onLambert file k n (length before)) refl
+    where
+      by : (o : OnLambert) → onLambert file k n (length before) ≡ o → SheetKeeps file k n before (numbersCode (sheetAs n o)) (numbersLeft before (sheetAs n o))
+      by (OnLambert.Grid g) said =
+          let known = judged-lambert file k n (length before) said in
+          record {
+            refused = λ top. absurd (omega (arith, top));
+            answered = λ _. demand-1 file .answers (sheetInto k n (length before)) .0 (ap ofLambert said);
+            placed = λ _. (g, on-grid k n (record { d = known .d; describes = known .describes; grid = known .kind; below = known .below }), (refl, refl));
+          }
+      by (OnLambert.Refused r) said =
+          record {
+            refused = λ _. (refuses-so (sheetInto k n (length before)) r (ap ofLambert said) (omega (arith, lambert-placed file k n (length before) said)), refl);
             answered = λ below. absurd (omega (arith, below));
             placed = λ below. absurd (omega (arith, below));
           }
@@ -191,6 +224,12 @@ calls =
           (λ e left.
           told-by (PlaceKeeps (given .0 .now) (given .1 .0) (given .1 .1 .0) (given .1 .1 .1 .0 .now)) e left
           (places-so (given .0 .now) (given .1 .0) (given .1 .1 .0) (given .1 .1 .1 .0 .now)));
+      sheet =
+          λ _ 𝓤 _ _ _ _ _ given _ answer lasts.
+          from-two 𝓤
+          (λ e left.
+          told-by (SheetKeeps (given .0 .now) (given .1 .0) (given .1 .1 .0) (given .1 .1 .1 .0 .now)) e left
+          (sheets-so (given .0 .now) (given .1 .0) (given .1 .1 .0) (given .1 .1 .1 .0 .now)));
       decode =
           λ _ 𝓤 _ _ _ _ _ given _ answer lasts.
           from-three 𝓤
@@ -206,6 +245,7 @@ rattle-calls =
       check = λ _ 𝓤 _ _ _ _ _ _ _ _ _. from-one 𝓤 (λ e. e);
       describe = λ _ 𝓤 _ _ _ _ _ _ _ _ _. from-one 𝓤 (λ e. e);
       place = λ _ 𝓤 _ _ _ _ _ _ _ _ _. from-one 𝓤 (λ e. e);
+      sheet = λ _ 𝓤 _ _ _ _ _ _ _ _ _. from-one 𝓤 (λ e. e);
       decode = λ _ 𝓤 _ _ _ _ _ _ _ _ _. from-three 𝓤 (λ e v p. (e, λ i. record { values = v i; presence = p i }));
       rebuild = λ _ 𝓤 _ _ _ _ _ _ _ _ _. from-one 𝓤 (λ e. e);
     }

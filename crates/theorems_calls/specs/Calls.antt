@@ -8,9 +8,14 @@ use lib.ListN.{length}
 use lib.IntN.{ℤ, pos, negsuc}
 use Rattle.tiling_sections.specs.declared.Located.{Located}
 use Rattle.theorems_grammar.specs.Grammar.{Accepted}
-use Rattle.section_3_geometry.specs.Geometry.{pointsOf}
 use Rattle.section_3_geometry.specs.declared.Position.{Position}
+use Rattle.section_3_geometry.specs.declared.DegreeGrid.{DegreeGrid}
+use Rattle.section_3_geometry.specs.declared.LambertGrid.{LambertGrid}
+use Rattle.section_3_geometry.specs.declared.Grid.{Grid}
+use Rattle.section_3_geometry.specs.declared.Grid.the-variants as Grid
+use Rattle.section_3_geometry.specs.Geometry.{pointsOf}
 use Rattle.section_3_positions.specs.Positions.{LiesAt}
+use Rattle.section_3_lambert.specs.Sheet.{sheetOf}
 use Rattle.question.specs.declared.Description.{Description}
 use Rattle.question.specs.Judged.{Judged}
 use Rattle.laws_rows.specs.Rows.{Puts}
@@ -18,8 +23,8 @@ use Rattle.text.specs.Text.{ascii, decimal}
 use Rattle.listing_lines.specs.Lines.{fieldText}
 use Rattle.listing_file.specs.declared.Printout.{Printout}
 use Rattle.listing_file.specs.Listing.{ReadFrom, unreadableText}
-use Rattle.question_numbers.specs.Numbers.{positionNumbers, numbersOf}
-use Rattle.theorems_demands.specs.Questions.{Question, check, describe, decode, describeInto, placeInto}
+use Rattle.question_numbers.specs.Numbers.{positionNumbers, sheetNumbers, numbersOf}
+use Rattle.theorems_demands.specs.Questions.{Question, check, describe, decode, describeInto, placeInto, sheetInto}
 use Rattle.theorems_demands.specs.Demand1.{FieldAt, Applies, First}
 use Rattle.theorems_demands.specs.Demand2.{BothRuns, Call, Decodes, answerTo, leftBehind}
 use Rattle.theorems_demands.specs.Demand3.{AllNear}
@@ -78,13 +83,28 @@ pub record DescribeKeeps (file : List ℕ) (k : ℕ) (before : List ℤ) (code :
   -- Demand 2: the numbers of the description of field k stand at the run's start, all else is as it was, and their count is the answer.
   pub described : code < 2 ^ 63 → (l : Located) × (d : Description) × FieldAt file k l × Judged file l d × Puts before 0 (numbersOf d) left code
 
+-- Field k lies in the file, its sections in force are taken, this is its grid, and it has point n.
+pub record OnGrid (file : List ℕ) (k n : ℕ) (g : Grid) : Type 0 where
+  pub l : Located
+  pub d : Description
+  pub lies : FieldAt file k l
+  pub judged : Judged file l d
+  pub grid : d .grid ≡ g
+  pub below : n < pointsOf g
+
 -- What a call of skeptolyr_place has answered, and the run that it has left, in the same way.
 pub record PlaceKeeps (file : List ℕ) (k n : ℕ) (before : List ℤ) (code : ℕ) (left : List ℤ) : Type 0 where
   pub refused : 2 ^ 63 ≤ code → Refuses file (placeInto k n (length before)) code × (left ≡ before)
   pub answered : code < 2 ^ 63 → (number place : ℕ) → Applies file (placeInto k n (length before)) number place → ⊥
-  -- Demand 2: field k has the point, and these are its latitude and its longitude.
-  pub placed : code < 2 ^ 63 →
-      (l : Located) × (d : Description) × (p : Position) × FieldAt file k l × Judged file l d × (n < pointsOf (d .grid)) × LiesAt (d .grid) n p × Puts before 0 (positionNumbers p) left code
+  -- Demand 2: field k is on a grid in degrees and has the point, and these are its latitude and its longitude.
+  pub placed : code < 2 ^ 63 → (g : DegreeGrid) × (p : Position) × OnGrid file k n (Grid.Degrees g) × LiesAt g n p × Puts before 0 (positionNumbers p) left code
+
+-- What a call of skeptolyr_sheet has answered, and the run that it has left, in the same way.
+pub record SheetKeeps (file : List ℕ) (k n : ℕ) (before : List ℤ) (code : ℕ) (left : List ℤ) : Type 0 where
+  pub refused : 2 ^ 63 ≤ code → Refuses file (sheetInto k n (length before)) code × (left ≡ before)
+  pub answered : code < 2 ^ 63 → (number place : ℕ) → Applies file (sheetInto k n (length before)) number place → ⊥
+  -- Demand 2: field k is on a Lambert grid and has the point, and so far to the right and down it lies.
+  pub placed : code < 2 ^ 63 → (g : LambertGrid) × OnGrid file k n (Grid.Lambert g) × Puts before 0 (sheetNumbers (sheetOf g n)) left code
 
 -- RULES, "Listing": how a refusal is told, and the line of field k.
 abbrev pub toldAs : ℕ → ℕ → List ℕ
@@ -124,7 +144,7 @@ abbrev pub callOf : ℕ → ℕ → BothRuns → Call
 callOf k start before = record { k = k; start = start; before = before }
 
 -- The promises, of the contracts that the checker proves of the functions. What is given are their parameters in order: of describe file, k and the run; of
--- place file, k, n and the run; of decode file, k, start, values and presence; of list the text and the input; of print the text, the run that was read
+-- place and sheet file, k, n and the run; of decode file, k, start, values and presence; of list the text and the input; of print the text, the run that was read
 -- into, and the two answers of reading.
 pub record Calls : Type 2 where
   pub check : Promises skeptolyr.skeptolyr_check.ended (λ _. skeptolyr.skeptolyr_check.clauses) (λ _ given answer _. Checks (given .0 .now) answer)
@@ -134,6 +154,9 @@ pub record Calls : Type 2 where
   pub place :
       Promises skeptolyr.skeptolyr_place.ended (λ _. skeptolyr.skeptolyr_place.clauses)
       (λ _ given answer lasts. PlaceKeeps (given .0 .now) (given .1 .0) (given .1 .1 .0) (given .1 .1 .1 .0 .now) answer (lasts .1 .1 .1 .0))
+  pub sheet :
+      Promises skeptolyr.skeptolyr_sheet.ended (λ _. skeptolyr.skeptolyr_sheet.clauses)
+      (λ _ given answer lasts. SheetKeeps (given .0 .now) (given .1 .0) (given .1 .1 .0) (given .1 .1 .1 .0 .now) answer (lasts .1 .1 .1 .0))
   pub decode :
       Promises skeptolyr.skeptolyr_decode.ended (λ _. skeptolyr.skeptolyr_decode.clauses)
       (λ _ given answer lasts.
@@ -151,6 +174,7 @@ pub record RattleCalls : Type 2 where
   pub check : Promises tiling.check.ended (λ _. tiling.check.clauses) (λ _ given answer _. answer ≡ Tiling.check (given .0 .now))
   pub describe : Promises question.describe.ended (λ _. question.describe.clauses) (λ _ given answer _. answer ≡ Describe.describe (given .0 .now) (given .1 .0))
   pub place : Promises question-place.place.ended (λ _. question-place.place.clauses) (λ _ given answer _. answer ≡ Place.place (given .0 .now) (given .1 .0) (given .1 .1 .0))
+  pub sheet : Promises question-place.sheet.ended (λ _. question-place.sheet.clauses) (λ _ given answer _. answer ≡ Place.sheet (given .0 .now) (given .1 .0) (given .1 .1 .0))
   pub decode :
       Promises question-decode.decode.ended (λ _. question-decode.decode.clauses)
       (λ _ given answer lasts.

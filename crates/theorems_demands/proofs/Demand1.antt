@@ -6,8 +6,8 @@ use mathlib.Core.Bool.{false, true}
 use mathlib.Core.List.{List}
 use mathlib.Core.Logic.{_⊎_, inl, inr}
 use native.Mathlib.Omega.{arith}
-use borrow.Author.Tests.{lt-ltb, le-ltb, ltb-true, ltb-false, le-leb}
-use lib.Dec.{ltb}
+use borrow.Author.Tests.{lt-ltb, le-ltb, ltb-true, ltb-false, le-leb, leb-true, eq-eqb, ne-eqb}
+use lib.Dec.{eqb, leb, ltb}
 use lib.ListN.{length}
 use lib.Ieee.{Float}
 use Rattle.octets.proofs.Cases.{apart, split}
@@ -34,7 +34,8 @@ use Rattle.section_1.specs.declared.Identification.{Identification}
 use Rattle.section_1.specs.declared.Identified.the-variants as Identified
 use Rattle.section_1.specs.Identification.{identificationAt}
 use Rattle.section_3_geometry.specs.declared.Grid.{Grid}
-use Rattle.section_3_geometry.specs.Geometry.{pointsOf}
+use Rattle.section_3_geometry.specs.declared.Grid.the-variants as Grid
+use Rattle.section_3_geometry.specs.Geometry.{pointsOf, templateOf}
 use Rattle.section_3.specs.declared.Gridded.the-variants as Gridded
 use Rattle.section_3.specs.Section3.{gridAt}
 use Rattle.section_4.specs.declared.ProductDefinition.{ProductDefinition}
@@ -54,18 +55,23 @@ use Rattle.values_integers.proofs.Range.{in-range-one, out-of-range}
 use Rattle.question.specs.declared.Description.{Description}
 use Rattle.question.specs.declared.Described.{Described}
 use Rattle.question.specs.declared.Described.the-variants as Described
-use Rattle.question.specs.declared.Asks.{Asks}
-use Rattle.question.specs.declared.Asks.the-variants as Asks
 use Rattle.question.specs.Describe as Describe
 use Rattle.question.specs.Describe.{refusedAt, packed, marked, represented, defined, gridded, describedAt, fieldIn}
-use Rattle.question.specs.Judge.{integerOf, isDecodable, hasRoom, valuesAsked, pointAsked, descriptionLength, positionLength, numbersAsked, positionAsked, askedOf, judge}
+use Rattle.question.specs.Judge.{Asks, integerOf, isDecodable, hasRoom, valuesAsked, descriptionLength, numbersAsked, askedOf, judge}
 use Rattle.question.specs.Judged.{Judged}
 use Rattle.question.proofs.Laws.{described, described-judged, room-fits}
 use Rattle.question.proofs.Chain.{at-section-1, at-section-3, at-section-4, at-section-5, at-section-6, at-section-7}
-use Rattle.question_place.specs.Place.{placedBy}
+use Rattle.question_place.specs.declared.Asked.{Asked}
+use Rattle.question_place.specs.declared.Asked.the-variants as Asked
+use Rattle.question_place.specs.declared.OnDegrees.{OnDegrees}
+use Rattle.question_place.specs.declared.OnDegrees.the-variants as OnDegrees
+use Rattle.question_place.specs.declared.OnLambert.{OnLambert}
+use Rattle.question_place.specs.declared.OnLambert.the-variants as OnLambert
+use Rattle.question_place.specs.Place.{placedBy, sheetBy, onDegrees, onLambert}
+use Rattle.question_place.proofs.Laws.{kindAsked, pointOf, inDegreesAs, onLambertAs, degrees-alike, lambert-alike}
 use Rattle.question_decode.specs.Decoding.{Outcome, gives, refuses, outcomeBy, outcome, answerOf, valuesAfter, presenceAfter}
-use Rattle.theorems_demands.specs.Questions.{Question, Verdict, ofChecked, ofDescribed, ofPlaced, ofDecoded, verdict, check, describe, place, decode, describeInto, placeInto, answered, refused, refusedBy}
-use Rattle.theorems_demands.specs.Demand1.{FieldAt, Names, describes, places, decodes, describesInto, placesInto, About, AsksPoint, asks, asksInto, Lends, lends, LendsNumbers, forDescription, forPosition, Fault, Applies, First, Demand1}
+use Rattle.theorems_demands.specs.Questions.{Question, Verdict, ofChecked, ofDescribed, ofPlaced, ofSheet, ofDegrees, ofLambert, ofDecoded, verdict, check, describe, place, sheet, decode, describeInto, placeInto, sheetInto, answered, refused, refusedBy}
+use Rattle.theorems_demands.specs.Demand1.{FieldAt, Names, describes, places, decodes, describesInto, placesInto, sheets, sheetsInto, About, AsksPoint, inDegrees, inDegreesInto, onSheet, onSheetInto, Lends, lends, LendsNumbers, forDegrees, forLambert, Fault, Applies, First, Demand1}
 use Rattle.theorems_demands.specs.Demand1 as Spec
 
 -- Where a refusal stands in the order.
@@ -196,6 +202,27 @@ clash-verdict e = apart cc
 one-verdict : {number place other elsewhere : ℕ} → refused number place ≡ refused other elsewhere → (number ≡ other) × (place ≡ elsewhere)
 one-verdict e = (cc, cc)
 
+-- What comes of a point that is asked for, in degrees or on the sheet, whoever asks.
+abbrev ofAsked : Asked → Verdict
+ofAsked Asked.Taken = answered
+ofAsked (Asked.Refused r) = refusedBy r
+
+placed-told : (n : ℕ) (o : OnDegrees) → ofPlaced (placedBy n o) ≡ ofAsked (inDegreesAs o)
+placed-told n (OnDegrees.Grid g) = refl
+placed-told n (OnDegrees.Refused r) = refl
+
+degrees-told : (o : OnDegrees) → ofDegrees o ≡ ofAsked (inDegreesAs o)
+degrees-told (OnDegrees.Grid g) = refl
+degrees-told (OnDegrees.Refused r) = refl
+
+sheet-told : (n : ℕ) (o : OnLambert) → ofSheet (sheetBy n o) ≡ ofAsked (onLambertAs o)
+sheet-told n (OnLambert.Grid g) = refl
+sheet-told n (OnLambert.Refused r) = refl
+
+lambert-told : (o : OnLambert) → ofLambert o ≡ ofAsked (onLambertAs o)
+lambert-told (OnLambert.Grid g) = refl
+lambert-told (OnLambert.Refused r) = refl
+
 -- A question is refused by s, or by a refusal that comes before s.
 abbrev Caught : List ℕ → Question → Refusal → Type 0
 Caught file q s = (r : Refusal) × (verdict file q ≡ refusedBy r) × ((r ≡ s) ⊎ (step r < step s))
@@ -238,6 +265,8 @@ module _ (file : List ℕ) where
   asked decodes e = rw e
   asked describesInto e = rw e
   asked placesInto e = rw e
+  asked sheets e = rw e
+  asked sheetsInto e = rw e
 
   caught-by : {q : Question} {l : Located} {s : Refusal} → About file q l → CaughtIn s (describedAt file l) → Caught file q s
   caught-by about caught = (caught .0, asked (about .names) (described-is (about .lies) ∙ caught .1), caught .2)
@@ -248,6 +277,8 @@ module _ (file : List ℕ) where
   file-refused {r} (place k n) bad = asked places (ap (fieldIn file k) (refuses-so file r .1 bad))
   file-refused {r} (describeInto k room) bad = asked describesInto (ap (fieldIn file k) (refuses-so file r .1 bad))
   file-refused {r} (placeInto k n room) bad = asked placesInto (ap (fieldIn file k) (refuses-so file r .1 bad))
+  file-refused {r} (sheet k n) bad = asked sheets (ap (fieldIn file k) (refuses-so file r .1 bad))
+  file-refused {r} (sheetInto k n room) bad = asked sheetsInto (ap (fieldIn file k) (refuses-so file r .1 bad))
   file-refused {r} (decode k start values presence) bad = asked decodes (ap (fieldIn file k) (refuses-so file r .1 bad))
 
   no-field : (k : ℕ) {m : ℕ} (fs : List Located) → tilingOf file ≡ Tiling.tiled m fs → length fs ≤ k → Describe.describe file k ≡ refusedAt Why.NoSuchField 0
@@ -268,50 +299,116 @@ module _ (file : List ℕ) where
           ap (λ (a : Described). ofDecoded (answerOf (outcomeBy file (askedOf file (Asks.Values start values presence) a)))) (described-is at ∙ said)
           ∙ ap (λ (a : Described). ofDecoded (answerOf (outcomeBy file a))) e
 
-  -- Of a field that does not have the point.
-  placed-as :
-      {q : Question} {l : Located} {d : Description} {n : ℕ} →
-      About file q l →
-      AsksPoint q n →
-      describedAt file l ≡ Described.As d →
-      ltb n (pointsOf (d .grid)) ≡ false →
-      verdict file q ≡ refused 17 0
-  placed-as {l = l} {d = d} about (asks {k} {n}) said e = by (about .names) (about .lies)
+  -- A question about a point is judged by the kind of the grid, then by the point, and then by the room.
+  point-verdict : {q : Question} {j template n room : ℕ} → AsksPoint q template n room → Names q j → verdict file q ≡ ofAsked (pointOf template n room (Describe.describe file j))
+  point-verdict (inDegrees {k} {n}) names = by names
     where
-      by : {j : ℕ} → Names (place k n) j → FieldAt file j l → verdict file (place k n) ≡ refused 17 0
-      by places at = ap (λ (a : Described). ofPlaced (placedBy n (askedOf file (Asks.Point n) a))) (described-is at ∙ said) ∙ rw e
-  placed-as {l = l} {d = d} about (asksInto {k} {n} {room}) said e = by (about .names) (about .lies)
+      by : {j : ℕ} → Names (place k n) j → verdict file (place k n) ≡ ofAsked (pointOf 0 n 2 (Describe.describe file j))
+      by places = placed-told n (onDegrees file k n 2) ∙ ap ofAsked (degrees-alike n 2 (Describe.describe file k))
+  point-verdict (inDegreesInto {k} {n} {room}) names = by names
     where
-      by : {j : ℕ} → Names (placeInto k n room) j → FieldAt file j l → verdict file (placeInto k n room) ≡ refused 17 0
-      by placesInto at = ap (λ (a : Described). ofDescribed (askedOf file (Asks.Position n room) a)) (described-is at ∙ said) ∙ rw e
+      by : {j : ℕ} → Names (placeInto k n room) j → verdict file (placeInto k n room) ≡ ofAsked (pointOf 0 n room (Describe.describe file j))
+      by placesInto = degrees-told (onDegrees file k n room) ∙ ap ofAsked (degrees-alike n room (Describe.describe file k))
+  point-verdict (onSheet {k} {n}) names = by names
+    where
+      by : {j : ℕ} → Names (sheet k n) j → verdict file (sheet k n) ≡ ofAsked (pointOf 30 n 2 (Describe.describe file j))
+      by sheets = sheet-told n (onLambert file k n 2) ∙ ap ofAsked (lambert-alike n 2 (Describe.describe file k))
+  point-verdict (onSheetInto {k} {n} {room}) names = by names
+    where
+      by : {j : ℕ} → Names (sheetInto k n room) j → verdict file (sheetInto k n room) ≡ ofAsked (pointOf 30 n room (Describe.describe file j))
+      by sheetsInto = lambert-told (onLambert file k n room) ∙ ap ofAsked (lambert-alike n room (Describe.describe file k))
 
-  -- 15: the run is too short for the numbers. Of a field that does not have the point, 17 comes before it.
-  short :
-      {q : Question} {l : Located} {needed room : ℕ} →
+  -- What it is answered of a field that is described.
+  point-refused :
+      {q : Question} {l : Located} {d : Description} {r : Refusal} {template n room : ℕ} →
       About file q l →
-      LendsNumbers q needed room →
+      AsksPoint q template n room →
+      describedAt file l ≡ Described.As d →
+      kindAsked template n room (d .grid) ≡ Asked.Refused r →
+      verdict file q ≡ refusedBy r
+  point-refused {template = template} {n = n} {room = room} about lent said e =
+      point-verdict lent (about .names) ∙ ap ofAsked (ap (pointOf template n room) (described-is (about .lies) ∙ said) ∙ e)
+
+  -- 20: the grid is of the other kind.
+  other :
+      {q : Question} {l : Located} {g : Grid} {template n room : ℕ} →
+      About file q l →
+      AsksPoint q template n room →
+      gridAt file (l .starts .three .0) ≡ Gridded.On g →
+      (templateOf g ≡ template → ⊥) →
+      Caught file q (refusal Why.OtherGrid 0)
+  other {q} {l} {g} {template} about lent of-three differs = by (described-or file l (refusal Why.OtherGrid 0) (omega (arith, in-order)))
+    where
+      by : CaughtOr file l (refusal Why.OtherGrid 0) (describedAt file l) → Caught file q (refusal Why.OtherGrid 0)
+      by (inl caught) = caught-by about caught
+      by (inr (d, said)) =
+          let of-grid = described-judged file l d said .ofThree in
+          let same : g ≡ d .grid = cc in
+          (refusal Why.OtherGrid 0, point-refused {r = refusal Why.OtherGrid 0} about lent said (rw (ne-eqb (templateOf (d .grid)) template (rw same at differs))), inl refl)
+
+  -- 17: there is no such point. 20 comes before it.
+  beyond :
+      {q : Question} {l : Located} {g : Grid} {template n room : ℕ} →
+      About file q l →
+      AsksPoint q template n room →
+      gridAt file (l .starts .three .0) ≡ Gridded.On g →
+      pointsOf g ≤ n →
+      Caught file q (refusal Why.NoSuchPoint 0)
+  beyond {q} {l} {g} {template} {n} about lent of-three few = by (described-or file l (refusal Why.NoSuchPoint 0) (omega (arith, in-order)))
+    where
+      by : CaughtOr file l (refusal Why.NoSuchPoint 0) (describedAt file l) → Caught file q (refusal Why.NoSuchPoint 0)
+      by (inl caught) = caught-by about caught
+      by (inr (d, said)) =
+          let of-grid = described-judged file l d said .ofThree in
+          let same : g ≡ d .grid = cc in
+          split (eqb (templateOf (d .grid)) template)
+          (λ kind. (refusal Why.NoSuchPoint 0, point-refused {r = refusal Why.NoSuchPoint 0} about lent said (rw (kind, le-leb (pointsOf (d .grid)) n (rw same at few))), inl refl))
+          (λ another. (refusal Why.OtherGrid 0, point-refused {r = refusal Why.OtherGrid 0} about lent said (rw another), inr (omega (arith, in-order))))
+
+  -- 15: the run is too short for a place. 20 and 17 come before it.
+  short-place :
+      {q : Question} {l : Located} {template n room : ℕ} →
+      About file q l →
+      AsksPoint q template n room →
+      room < 2 →
+      Caught file q (refusal Why.NoRoom 0)
+  short-place {q} {l} {template} {n} {room} about lent less = by (described-or file l (refusal Why.NoRoom 0) (omega (arith, in-order)))
+    where
+      by : CaughtOr file l (refusal Why.NoRoom 0) (describedAt file l) → Caught file q (refusal Why.NoRoom 0)
+      by (inl caught) = caught-by about caught
+      by (inr (d, said)) =
+          split (eqb (templateOf (d .grid)) template)
+          (λ kind.
+          split (leb (pointsOf (d .grid)) n)
+          (λ behind. (refusal Why.NoSuchPoint 0, point-refused {r = refusal Why.NoSuchPoint 0} about lent said (rw (kind, behind)), inr (omega (arith, in-order))))
+          (λ there. (refusal Why.NoRoom 0, point-refused {r = refusal Why.NoRoom 0} about lent said (rw (kind, there, lt-ltb room 2 less)), inl refl)))
+          (λ another. (refusal Why.OtherGrid 0, point-refused {r = refusal Why.OtherGrid 0} about lent said (rw another), inr (omega (arith, in-order))))
+
+  -- 15: the run is too short for the numbers of a description.
+  short :
+      {q : Question} {l : Located} {g : Grid} {needed room : ℕ} →
+      About file q l →
+      gridAt file (l .starts .three .0) ≡ Gridded.On g →
+      LendsNumbers q g needed room →
       room < needed →
       Caught file q (refusal Why.NoRoom 0)
-  short {q} {l} about lent few = by (described-or file l (refusal Why.NoRoom 0) (omega (arith, in-order)))
+  short {q} {l} {g} about of-three lent few = by (described-or file l (refusal Why.NoRoom 0) (omega (arith, in-order)))
     where
-      told-short : {k room : ℕ} {d : Description} → room < 53 → {j : ℕ} → Names (describeInto k room) j → FieldAt file j l → describedAt file l ≡ Described.As d → verdict file (describeInto k room) ≡ refused 15 0
-      told-short {room = room} less describesInto at said = ap (λ (a : Described). ofDescribed (askedOf file (Asks.Numbers room) a)) (described-is at ∙ said) ∙ rw (lt-ltb room 53 less)
+      told-short : {k room : ℕ} {d : Description} → room < descriptionLength (d .grid) → {j : ℕ} → Names (describeInto k room) j → FieldAt file j l → describedAt file l ≡ Described.As d →
+          verdict file (describeInto k room) ≡ refused 15 0
+      told-short {room = room} {d = d} less describesInto at said =
+          ap (λ (a : Described). ofDescribed (askedOf file (Asks.Numbers room) a)) (described-is at ∙ said) ∙ rw (lt-ltb room (descriptionLength (d .grid)) less)
 
-      placed-short : {k n room : ℕ} {d : Description} → room < 2 → {j : ℕ} → Names (placeInto k n room) j → FieldAt file j l → describedAt file l ≡ Described.As d → ltb n (pointsOf (d .grid)) ≡ true →
-          verdict file (placeInto k n room) ≡ refused 15 0
-      placed-short {n = n} {room = room} less placesInto at said there =
-          ap (λ (a : Described). ofDescribed (askedOf file (Asks.Position n room) a)) (described-is at ∙ said) ∙ rw (there, lt-ltb room 2 less)
-
-      lacking : {q : Question} {needed room : ℕ} (d : Description) → About file q l → LendsNumbers q needed room → room < needed → describedAt file l ≡ Described.As d → Caught file q (refusal Why.NoRoom 0)
-      lacking d about forDescription less said = (refusal Why.NoRoom 0, told-short less (about .names) (about .lies) said, inl refl)
-      lacking d about (forPosition {k} {n} {room}) less said =
-          split (ltb n (pointsOf (d .grid)))
-          (λ there. (refusal Why.NoRoom 0, placed-short less (about .names) (about .lies) said there, inl refl))
-          (λ beyond. (refusal Why.NoSuchPoint 0, placed-as about (asksInto {k = k} {n = n} {room = room}) said beyond, inr (omega (arith, in-order))))
+      lacking : {q : Question} {h : Grid} {needed room : ℕ} (d : Description) → About file q l → h ≡ d .grid → LendsNumbers q h needed room → room < needed → describedAt file l ≡ Described.As d → Caught file q (refusal Why.NoRoom 0)
+      lacking d about same (forDegrees {room = room}) less said = (refusal Why.NoRoom 0, told-short (subst (λ (h : Grid). room < descriptionLength h) same less) (about .names) (about .lies) said, inl refl)
+      lacking d about same (forLambert {room = room}) less said = (refusal Why.NoRoom 0, told-short (subst (λ (h : Grid). room < descriptionLength h) same less) (about .names) (about .lies) said, inl refl)
 
       by : CaughtOr file l (refusal Why.NoRoom 0) (describedAt file l) → Caught file q (refusal Why.NoRoom 0)
       by (inl caught) = caught-by about caught
-      by (inr (d, said)) = lacking d about lent few said
+      by (inr (d, said)) =
+          let of-grid = described-judged file l d said .ofThree in
+          let same : g ≡ d .grid = cc in
+          lacking d about same lent few said
 
   -- 15: there is no room.
   full :
@@ -360,23 +457,6 @@ module _ (file : List ℕ) where
           (λ fails. (refusal Why.ValueOutOfRange (d .starts .seven .0), decoded-as {r = refusal Why.ValueOutOfRange (d .starts .seven .0)} about lent said (rw (room, fails)), inl (ap (refusal Why.ValueOutOfRange) (sym seven)))))
           (λ none. (refusal Why.NoRoom 0, decoded-as {r = refusal Why.NoRoom 0} about lent said (rw none), inr (omega (arith, in-order))))
 
-  -- 17: there is no such point.
-  beyond :
-      {q : Question} {l : Located} {g : Grid} {n : ℕ} →
-      About file q l →
-      AsksPoint q n →
-      gridAt file (l .starts .three .0) ≡ Gridded.On g →
-      pointsOf g ≤ n →
-      Caught file q (refusal Why.NoSuchPoint 0)
-  beyond {q} {l} {g} {n} about asked-point of-three few = by (described-or file l (refusal Why.NoSuchPoint 0) (omega (arith, in-order)))
-    where
-      by : CaughtOr file l (refusal Why.NoSuchPoint 0) (describedAt file l) → Caught file q (refusal Why.NoSuchPoint 0)
-      by (inl caught) = caught-by about caught
-      by (inr (d, said)) =
-          let of-grid = described-judged file l d said .ofThree in
-          let same : g ≡ d .grid = cc in
-          (refusal Why.NoSuchPoint 0, placed-as about asked-point said (le-ltb n (pointsOf (d .grid)) (rw (sym same) few)), inl refl)
-
   -- 3 to 7: a fault of the tiling comes behind 1 alone.
   faulted : (q : Question) {why : declaredWhy.Why} {place : ℕ} → Fault file why place → Caught file q (refusal why place)
   faulted q f =
@@ -402,10 +482,12 @@ module _ (file : List ℕ) where
   caught {q} (Spec.section-6 {l} about of-three of-five fails) = told file q (refusal Why.BadBitmap (l .starts .six .0)) (caught-by about (caught-6 file l of-three of-five fails))
   caught {q} (Spec.section-7 {l} about of-five fails) = told file q (refusal Why.BadPacking (l .starts .seven .0)) (caught-by about (caught-7 file l of-five fails))
   caught {q} (Spec.no-room {start = start} {values = values} {presence = presence} about lent of-three fits) = told file q (refusal Why.NoRoom 0) (full start values presence about lent of-three fits)
-  caught {q} (Spec.no-room-for-numbers about lent few) = told file q (refusal Why.NoRoom 0) (short about lent few)
+  caught {q} (Spec.no-room-for-numbers about of-three lent few) = told file q (refusal Why.NoRoom 0) (short about of-three lent few)
+  caught {q} (Spec.no-room-for-place about lent few) = told file q (refusal Why.NoRoom 0) (short-place about lent few)
   caught {q} (Spec.out-of-range {l} {start = start} {values = values} {presence = presence} {m = m} about lent of-five among outside) =
       told file q (refusal Why.ValueOutOfRange (l .starts .seven .0)) (out start values presence m about lent of-five among outside)
-  caught {q} (Spec.no-such-point about asked-point of-three few) = told file q (refusal Why.NoSuchPoint 0) (beyond about asked-point of-three few)
+  caught {q} (Spec.no-such-point about lent of-three few) = told file q (refusal Why.NoSuchPoint 0) (beyond about lent of-three few)
+  caught {q} (Spec.other-grid about lent of-three differs) = told file q (refusal Why.OtherGrid 0) (other about lent of-three differs)
 
   -- A question is refused only by a refusal that applies: of the file, and of the field that is asked about.
   abbrev AppliesBy : Question → Refusal → Type 0
@@ -476,28 +558,46 @@ module _ (file : List ℕ) where
         by (Described.As d) said = behind d said
         by (Described.Refused f) said = λ r same. described-applies r (said ∙ same)
 
-  point-applies : (k n : ℕ) (d : Description) → Describe.describe file k ≡ Described.As d → Explained (place k n) (pointAsked n d)
-  point-applies k n d said =
-      let at = described-at k said in
-      split (ltb n (pointsOf (d .grid)))
-      (λ there. rw there (λ r same. apart cc))
-      (λ behind. rw behind (explain (Spec.no-such-point (record { k = k; names = places; lies = at .1 }) asks (at .2 .ofThree) (ltb-false n _ behind))))
-
-  numbers-applies : (k room : ℕ) (d : Description) → Describe.describe file k ≡ Described.As d → Explained (describeInto k room) (numbersAsked descriptionLength room d)
+  numbers-applies : (k room : ℕ) (d : Description) → Describe.describe file k ≡ Described.As d → Explained (describeInto k room) (numbersAsked room d)
   numbers-applies k room d said =
-      split (ltb room descriptionLength)
-      (λ few. rw few (explain (Spec.no-room-for-numbers (record { k = k; names = describesInto; lies = described-at k said .1 }) forDescription (ltb-true room descriptionLength few))))
+      split (ltb room (descriptionLength (d .grid)))
+      (λ few. rw few (explain (by (d .grid) (described-at k said .2 .ofThree) (ltb-true room (descriptionLength (d .grid)) few))))
       (λ enough. rw enough (λ r same. apart cc))
+    where
+      about : About file (describeInto k room) (described-at k said .0)
+      about = record { k = k; names = describesInto; lies = described-at k said .1 }
 
-  position-applies : (k n room : ℕ) (d : Description) → Describe.describe file k ≡ Described.As d → Explained (placeInto k n room) (positionAsked n room d)
-  position-applies k n room d said =
+      by : (g : Grid) → gridAt file (described-at k said .0 .starts .three .0) ≡ Gridded.On g → room < descriptionLength g → AppliesBy (describeInto k room) (refusal Why.NoRoom 0)
+      by (Grid.Degrees g) of-three few = Spec.no-room-for-numbers about of-three forDegrees few
+      by (Grid.Lambert g) of-three few = Spec.no-room-for-numbers about of-three forLambert few
+
+  -- What is refused of a point applies: of the field, or of its kind, its number and its room.
+  abbrev ExplainedPoint : Question → Asked → Type 0
+  ExplainedPoint q a = (r : Refusal) → a ≡ Asked.Refused r → AppliesBy q r
+
+  explain-point : {q : Question} {t : Refusal} → AppliesBy q t → ExplainedPoint q (Asked.Refused t)
+  explain-point {q} {t} applies r same = let alike : t ≡ r = cc in subst (AppliesBy q) alike applies
+
+  kind-applies : {q : Question} {k template n room : ℕ} → Names q k → AsksPoint q template n room → (d : Description) → Describe.describe file k ≡ Described.As d → ExplainedPoint q (kindAsked template n room (d .grid))
+  kind-applies {q} {k} {template} {n} {room} names lent d said =
       let at = described-at k said in
-      split (ltb n (pointsOf (d .grid)))
+      let about : About file q (at .0) = record { k = k; names = names; lies = at .1 } in
+      split (eqb (templateOf (d .grid)) template)
+      (λ kind.
+      split (leb (pointsOf (d .grid)) n)
+      (λ behind. rw (kind, behind) (explain-point (Spec.no-such-point about lent (at .2 .ofThree) (leb-true (pointsOf (d .grid)) n behind))))
       (λ there.
-      split (ltb room positionLength)
-      (λ few. rw (there, few) (explain (Spec.no-room-for-numbers (record { k = k; names = placesInto; lies = at .1 }) forPosition (ltb-true room positionLength few))))
-      (λ enough. rw (there, enough) (λ r same. apart cc)))
-      (λ behind. rw behind (explain (Spec.no-such-point (record { k = k; names = placesInto; lies = at .1 }) asksInto (at .2 .ofThree) (ltb-false n _ behind))))
+      split (ltb room 2)
+      (λ few. rw (kind, there, few) (explain-point (Spec.no-room-for-place about lent (ltb-true room 2 few))))
+      (λ enough. rw (kind, there, enough) (λ r same. apart cc))))
+      (λ another. rw another (explain-point (Spec.other-grid about lent (at .2 .ofThree) (λ same. let is = eq-eqb (templateOf (d .grid)) template same in apart cc))))
+
+  point-applies : {q : Question} {k template n room : ℕ} → Names q k → AsksPoint q template n room → ExplainedPoint q (pointOf template n room (Describe.describe file k))
+  point-applies {q} {k} {template} {n} {room} names lent = by (Describe.describe file k) refl
+    where
+      by : (a : Described) → Describe.describe file k ≡ a → ExplainedPoint q (pointOf template n room a)
+      by (Described.As d) said = kind-applies names lent d said
+      by (Described.Refused f) said = λ r same. let alike : f ≡ r = cc in described-applies names r (subst (λ (x : Refusal). Describe.describe file k ≡ Described.Refused x) alike said)
 
   stretch-applies : (k start values presence : ℕ) (d : Description) → Describe.describe file k ≡ Described.As d → Explained (decode k start values presence) (valuesAsked file start values presence d)
   stretch-applies k start values presence d said =
@@ -527,6 +627,13 @@ module _ (file : List ℕ) where
   told-applies : {q : Question} (f : Refusal) {m p : ℕ} → refusedBy f ≡ refused m p → AppliesBy q f → Applies file q m p
   told-applies {q} f {m} e applies = let same = one-verdict e in subst (Applies file q m) (same .1) (subst (λ (n : ℕ). Applies file q n (f .place .0)) (same .0) applies)
 
+  told-point : {q : Question} {k template n room m p : ℕ} → Names q k → AsksPoint q template n room → verdict file q ≡ refused m p → Applies file q m p
+  told-point {q} {k} {template} {n} {room} {m} {p} names lent e = by (pointOf template n room (Describe.describe file k)) refl (sym (point-verdict lent names) ∙ e)
+    where
+      by : (a : Asked) → pointOf template n room (Describe.describe file k) ≡ a → ofAsked a ≡ refused m p → Applies file q m p
+      by Asked.Taken said e = clash-verdict e
+      by (Asked.Refused f) said e = told-applies f e (point-applies names lent f said)
+
   applies-of : {m p : ℕ} (q : Question) → verdict file q ≡ refused m p → Applies file q m p
   applies-of {m} {p} check e = by (Tiling.check file) refl e
     where
@@ -538,11 +645,8 @@ module _ (file : List ℕ) where
       by : (a : Described) → Describe.describe file k ≡ a → ofDescribed a ≡ refused m p → Applies file (describe k) m p
       by (Described.As d) said e = clash-verdict e
       by (Described.Refused f) said e = told-applies f e (described-applies describes f said)
-  applies-of {m} {p} (place k n) e = by (judge file k (Asks.Point n)) refl e
-    where
-      by : (a : Described) → judge file k (Asks.Point n) ≡ a → ofPlaced (placedBy n a) ≡ refused m p → Applies file (place k n) m p
-      by (Described.As d) said e = clash-verdict e
-      by (Described.Refused f) said e = told-applies f e (judged-applies places (Asks.Point n) (point-applies k n) f said)
+  applies-of (place k n) e = told-point places inDegrees e
+  applies-of (sheet k n) e = told-point sheets onSheet e
   applies-of {m} {p} (decode k start values presence) e = by (judge file k (Asks.Values start values presence)) refl e
     where
       by : (a : Described) → judge file k (Asks.Values start values presence) ≡ a → ofDecoded (answerOf (outcomeBy file a)) ≡ refused m p → Applies file (decode k start values presence) m p
@@ -553,11 +657,8 @@ module _ (file : List ℕ) where
       by : (a : Described) → judge file k (Asks.Numbers room) ≡ a → ofDescribed a ≡ refused m p → Applies file (describeInto k room) m p
       by (Described.As d) said e = clash-verdict e
       by (Described.Refused f) said e = told-applies f e (judged-applies describesInto (Asks.Numbers room) (numbers-applies k room) f said)
-  applies-of {m} {p} (placeInto k n room) e = by (judge file k (Asks.Position n room)) refl e
-    where
-      by : (a : Described) → judge file k (Asks.Position n room) ≡ a → ofDescribed a ≡ refused m p → Applies file (placeInto k n room) m p
-      by (Described.As d) said e = clash-verdict e
-      by (Described.Refused f) said e = told-applies f e (judged-applies placesInto (Asks.Position n room) (position-applies k n room) f said)
+  applies-of (placeInto k n room) e = told-point placesInto inDegreesInto e
+  applies-of (sheetInto k n room) e = told-point sheetsInto onSheetInto e
 
 pub demand-1 : (file : List ℕ) → Demand1 file
 demand-1 file =

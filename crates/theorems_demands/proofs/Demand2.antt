@@ -1,11 +1,11 @@
 -- The proof of demand 2: what check, describe and place answer, and what decode writes, is what the standard defines.
-use mathlib.Core.Path.{_≡_, refl, ap, subst, _∙_}
+use mathlib.Core.Path.{_≡_, refl, sym, ap, subst, _∙_}
 use mathlib.Core.Bool.{true}
 use mathlib.Core.List.{List}
 use Prim.Native.Nat.{ℕ, _+_, _≤_, _<_}
 use native.Mathlib.Numerals.{add-one}
 use native.Mathlib.Omega.{arith}
-use borrow.Author.Tests.{leb-true, lt-ltb}
+use borrow.Author.Tests.{leb-true}
 use lib.IntN.{ℤ, pos, negsuc, natAbs}
 use lib.ListN.{length}
 use lib.Ieee.{nan}
@@ -16,11 +16,17 @@ use Rattle.doubles.specs.Doubles.{isInRange, packingOf, valueOf}
 use Rattle.theorems_grammar.proofs.Accepted.{counts}
 use Rattle.theorems_grammar.proofs.Unique.{unique}
 use Rattle.section_3_geometry.specs.declared.Position.{Position}
+use Rattle.section_3_geometry.specs.declared.DegreeGrid.{DegreeGrid}
+use Rattle.section_3_geometry.specs.declared.LambertGrid.{LambertGrid}
+use Rattle.section_3_geometry.specs.declared.Grid.the-variants as Grid
 use Rattle.section_3_geometry.specs.Geometry.{pointsOf}
+use Rattle.section_3_geometry.proofs.Laws.{taken-measured}
 use Rattle.section_3_positions.specs.Positions.{LiesAt}
 use Rattle.section_3_positions.specs.Expected.{AsExpected}
 use Rattle.section_3_positions.proofs.Laws.{position-lies, lies-once, lie-as-expected}
-use Rattle.section_3.proofs.Laws.{grid-passes}
+use Rattle.section_3_lambert.specs.declared.SheetPlace.{SheetPlace}
+use Rattle.section_3_lambert.specs.Sheet.{sheetOf}
+use Rattle.section_3.proofs.Laws.{Passes}
 use Rattle.section_6.specs.declared.Presence as declared
 use Rattle.section_6.specs.declared.Presence.the-variants as Presence
 use Rattle.section_6.specs.Presence.{presentAt, presentBefore}
@@ -31,17 +37,22 @@ use Rattle.values_integers.proofs.Range.{in-range-one}
 use Rattle.question.specs.declared.Description.{Description}
 use Rattle.question.specs.declared.Described.{Described}
 use Rattle.question.specs.declared.Described.the-variants as Described
-use Rattle.question.specs.declared.Asks.the-variants as Asks
 use Rattle.question.specs.Describe.{describe}
-use Rattle.question.specs.Judge.{Known, integerOf, isDecodable, hasRoom, judge}
-use Rattle.question.proofs.Laws.{judged-described, judged-point, judged-values, described, described-grid, room-fits}
+use Rattle.question.specs.Judge.{Asks, Known, integerOf, isDecodable, hasRoom, judge}
+use Rattle.question.proofs.Laws.{judged-described, judged-values, described-grid, room-fits}
 use Rattle.question.proofs.Known.{packed-present}
 use Rattle.question_place.specs.declared.Placed.the-variants as Placed
-use Rattle.question_place.specs.Place.{placedBy, place}
+use Rattle.question_place.specs.declared.OnSheet.the-variants as OnSheet
+use Rattle.question_place.specs.declared.OnDegrees.{OnDegrees}
+use Rattle.question_place.specs.declared.OnDegrees.the-variants as OnDegrees
+use Rattle.question_place.specs.declared.OnLambert.{OnLambert}
+use Rattle.question_place.specs.declared.OnLambert.the-variants as OnLambert
+use Rattle.question_place.specs.Place.{placeLength, onDegrees, onLambert, placedBy, place, sheetBy, sheet}
+use Rattle.question_place.proofs.Laws.{InDegrees, OnASheet, judged-degrees, degrees-judged, judged-lambert, lambert-judged, degrees-passes}
 use Rattle.question_decode.specs.declared.Decoded.the-variants as Decoded
 use Rattle.question_decode.specs.Decoding as Decoding
 use Rattle.question_decode.specs.Decoding.{packingBy, presentOf, rankOf, doubleOf, Outcome, outcome, outcomeBy, answerOf, valuesAfter, presenceAfter}
-use Rattle.theorems_demands.specs.Demand2.{Present, Point, Call, leftBehind, answerTo, Decodes, Demand2}
+use Rattle.theorems_demands.specs.Demand2.{Present, Point, HasPoint, Call, leftBehind, answerTo, Decodes, Demand2}
 use Rattle.theorems_demands.proofs.Demand1.{described-is, described-at}
 use Rattle.theorems_demands.proofs.Numbers.{in-numbers}
 
@@ -51,6 +62,9 @@ one-count e = cc
 
 one-position : {a b : Position} → Placed.At a ≡ Placed.At b → a ≡ b
 one-position e = cc
+
+one-place : {a b : SheetPlace} → OnSheet.At a ≡ OnSheet.At b → a ≡ b
+one-place e = cc
 
 -- An integer in its range is a number without a sign, which it is by its size.
 own-size : (z : ℤ) → isInRange z ≡ true → (z ≡ pos (natAbs z)) × (natAbs z ≤ 2147483647)
@@ -140,30 +154,51 @@ module _ (file : List ℕ) (c : Call) where
           (d, decodes-met d (known .0) (known .1) (known .2), one-count e)
       by (Described.Refused r) said e = apart cc
 
--- Where a point lies.
+-- Where a point lies, in degrees.
 module _ (file : List ℕ) (k n : ℕ) (p : Position) where
   abbrev Lies : Type 0
-  Lies = (d : Description) × (describe file k ≡ Described.As d) × (n < pointsOf (d .grid)) × LiesAt (d .grid) n p
+  Lies = (g : DegreeGrid) × HasPoint file k n (Grid.Degrees g) × LiesAt g n p
 
   placed-lies : place file k n ≡ Placed.At p → Lies
-  placed-lies = by (judge file k (Asks.Point n)) refl
+  placed-lies = by (onDegrees file k n placeLength) refl
     where
-      by : (a : Described) → judge file k (Asks.Point n) ≡ a → placedBy n a ≡ Placed.At p → Lies
-      by (Described.As d) said e =
-          let known = judged-point file k n said in
-          (d, known .0, known .1, subst (LiesAt (d .grid) n) (one-position e) (position-lies (d .grid) n))
-      by (Described.Refused r) said e = apart cc
+      by : (o : OnDegrees) → onDegrees file k n placeLength ≡ o → placedBy n o ≡ Placed.At p → Lies
+      by (OnDegrees.Grid g) said e =
+          let known = judged-degrees file k n placeLength said in
+          (g, record { d = known .d; describes = known .describes; grid = known .kind; below = known .below }, subst (LiesAt g n) (one-position e) (position-lies g n))
+      by (OnDegrees.Refused r) said e = apart cc
 
   lies-placed : Lies → place file k n ≡ Placed.At p
   lies-placed h =
-      let g = h .0 .grid in
-      let measured = described-grid file k (h .1) .0 in
-      rw (h .1, lt-ltb n (pointsOf g) (h .2)) (ap Placed.At (lies-once g n (measured .columns) (measured .rows) (position-lies g n) (h .3)))
+      let g = h .0 in
+      let known : InDegrees file k n placeLength g = record { d = h .1 .d; describes = h .1 .describes; kind = h .1 .grid; below = h .1 .below; fits = omega arith } in
+      let passed = degrees-passes file k n placeLength known in
+      let measured = taken-measured g (passed .0) (passed .1) in
+      ap (placedBy n) (degrees-judged file k n placeLength known) ∙ ap Placed.At (lies-once g n (measured .columns) (measured .rows) (position-lies g n) (h .2))
 
-expected : (file : List ℕ) (k : ℕ) (d : Description) → describe file k ≡ Described.As d → AsExpected (d .grid)
-expected file k d said =
-    let known = described file k said in
-    lie-as-expected (d .grid) _ (grid-passes file (known .0 .starts .three .0) (known .2 .ofThree))
+expected : (file : List ℕ) (k : ℕ) (d : Description) (g : DegreeGrid) → describe file k ≡ Described.As d → d .grid ≡ Grid.Degrees g → AsExpected g
+expected file k d g said kind =
+    let grid = described-grid file k said in
+    lie-as-expected g _ (subst (Passes file (grid .0)) kind (grid .1) .0)
+
+-- Where a point lies on the sheet.
+module _ (file : List ℕ) (k n : ℕ) (p : SheetPlace) where
+  abbrev Rolled : Type 0
+  Rolled = (g : LambertGrid) × HasPoint file k n (Grid.Lambert g) × (p ≡ sheetOf g n)
+
+  sheet-rolled : sheet file k n ≡ OnSheet.At p → Rolled
+  sheet-rolled = by (onLambert file k n placeLength) refl
+    where
+      by : (o : OnLambert) → onLambert file k n placeLength ≡ o → sheetBy n o ≡ OnSheet.At p → Rolled
+      by (OnLambert.Grid g) said e =
+          let known = judged-lambert file k n placeLength said in
+          (g, record { d = known .d; describes = known .describes; grid = known .kind; below = known .below }, sym (one-place e))
+      by (OnLambert.Refused r) said e = apart cc
+
+  rolled-sheet : Rolled → sheet file k n ≡ OnSheet.At p
+  rolled-sheet h =
+      let known : OnASheet file k n placeLength (h .0) = record { d = h .1 .d; describes = h .1 .describes; kind = h .1 .grid; below = h .1 .below; fits = omega arith } in
+      ap (sheetBy n) (lambert-judged file k n placeLength known) ∙ ap OnSheet.At (sym (h .2))
 
 pub demand-2 : (file : List ℕ) → Demand2 file
 demand-2 file =
@@ -174,5 +209,6 @@ demand-2 file =
       numbers = in-numbers file;
       places = λ k n p. (placed-lies file k n p, lies-placed file k n p);
       expected = expected file;
+      sheets = λ k n p. (sheet-rolled file k n p, rolled-sheet file k n p);
       decodes = decoded file;
     }

@@ -1,5 +1,7 @@
 -- The table of worked examples holds: each row is computed from the definitions.
-use mathlib.Core.Path.{refl, _∙_}
+use Prim.Native.Nat.{ℕ}
+use mathlib.Core.Path.{refl, ap₂, _∙_}
+use native.Mathlib.Nat.{zero-mul, one-mul}
 use native.Mathlib.Omega.{arith}
 use lib.Ieee.{add, mul, div, ofInt, ofBits, toBits}
 use Rattle.octets.specs.Numbers.{numberAt}
@@ -42,4 +44,6 @@ examples =
       );
       halfEast = λ g n p columns span column l. away-once (omega arith) (rw (column, columns, span) at (l .column)) away-of;
       halfSouth = λ g n p rows span row l. away-once (omega arith) (rw (row, rows, span) at (l .row)) away-of;
+      lastOnSheet = λ g columns across down. rw (columns, across, down);
+      secondRow = λ g columns. rw columns (ap₂ (λ (right down : ℕ). record { right = right; down = down }) (zero-mul (g .dx)) (one-mul (g .dy)));
     }

@@ -1,12 +1,14 @@
 -- The proof that the number of each case of a description is what the octets of the field's sections hold.
 use Prim.Native.Nat.{ℕ}
-use mathlib.Core.Path.{_≡_, refl, sym, ap, subst}
+use mathlib.Core.Path.{_≡_, refl, sym, ap, subst, _∙_}
 use mathlib.Core.Bool.{Bool, true, false, _&&_, _||_}
-use mathlib.Core.List.{List}
+use mathlib.Core.List.{List, _++_}
+use native.Mathlib.Nat.{add-zero}
 use borrow.Author.Tests.{eqb-true, eqb-false}
 use lib.Dec.{eqb, ltb}
-use lib.IntN.{pos}
-use lib.ListN.{getD}
+use lib.IntN.{ℤ, pos}
+use lib.ListN.{length, getD}
+use lib.Seq.{getD-append-add}
 use Rattle.octets.specs.Places.{at, placeOf}
 use Rattle.octets.proofs.Cases.{apart, split, both}
 use Rattle.calendar.specs.declared.Time.{Time}
@@ -19,6 +21,11 @@ use Rattle.section.specs.Sections.{octet, held, lengthAt}
 use Rattle.tiling_sections.specs.declared.Located.{Located}
 use Rattle.tiling_sections.specs.declared.Bitmap.{Bitmap}
 use Rattle.tiling_sections.specs.declared.Bitmap.the-variants as Bitmap
+use Rattle.section_3_geometry.specs.declared.LambertGrid.{LambertGrid}
+use Rattle.section_3_geometry.specs.declared.Grid as declaredGrid
+use Rattle.section_3_geometry.specs.declared.Grid.the-variants as Grid
+use Rattle.section_3_geometry.specs.Geometry.{templateOf}
+use Rattle.section_3.proofs.Laws.{grid-template}
 use Rattle.section_4.specs.declared.Kind.{Kind}
 use Rattle.section_4.specs.declared.Kind.the-variants as Kind
 use Rattle.section_4.specs.declared.Level as declaredLevel
@@ -47,9 +54,14 @@ use Rattle.section_6.specs.declared.Marked.{Marked}
 use Rattle.section_6.specs.declared.Marked.the-variants as Marked
 use Rattle.section_6.specs.Presence.{isBitmap, ownAt, earlierAt, allOf, presenceAt, indicatorOf}
 use Rattle.question.specs.declared.Description.{Description}
-use Rattle.question_numbers.specs.Numbers.{levelNumbers, kindNumber, productNumbers}
+use Rattle.question_numbers.specs.Numbers.{levelNumbers, kindNumber, productNumbers, lambertNumbers, sharedNumbers, numbersOf}
+use Rattle.question_numbers.proofs.Laws.{shared-length}
 use Rattle.question.specs.Judged.{Judged}
 use Rattle.theorems_demands.specs.Numbers.{levelHeld, InNumbers}
+
+-- What stands behind so many numbers of a row.
+getD-behind : (front rest : List ℤ) {n : ℕ} → length front ≡ n → getD (front ++ rest) n (pos 0) ≡ getD rest 0 (pos 0)
+getD-behind front rest e = ap (λ (m : ℕ). getD (front ++ rest) m (pos 0)) (sym e ∙ sym (add-zero (length front))) ∙ getD-append-add front rest 0 (pos 0)
 
 -- Of two tests one of which holds, it is the first or the second.
 either : {A : Type 0} (a b : Bool) → a || b ≡ true → (a ≡ true → A) → (b ≡ true → A) → A
@@ -175,12 +187,21 @@ module _ (file : List ℕ) (s : ℕ) where
   unfolding productDefinitionAt
   taken-is-template reference e = split (isProduct file s) (λ test. both _ _ (both _ _ (both _ _ (both _ _ test .0) .0) .0) .0) (λ not. apart (cc (rw not at e)))
 
+-- Of a Lambert grid, the template is the first of the numbers behind those that every description has.
+behind-shared : (d : Description) (g : LambertGrid) → d .grid ≡ Grid.Lambert g → getD (numbersOf d) 53 (pos 0) ≡ pos 30
+behind-shared d g kind =
+    getD-behind (sharedNumbers d) (lambertNumbers (d .grid)) (shared-length d)
+    ∙ ap (λ (h : declaredGrid.Grid). getD (lambertNumbers h) 0 (pos 0)) kind
+
 pub in-numbers : (file : List ℕ) (l : Located) (d : Description) → Judged file l d → InNumbers file l d
 in-numbers file l d judged =
     let s : ℕ = l .starts .four .0 in
     let told = defined-tells file s (d .identification .reference) (judged .ofFour) in
     let product = product-by file s (d .definition .valid) (d .definition .product) (told .product) in
+    let grid = grid-template file (l .starts .three .0) (judged .ofThree) in
     record {
+      grid = grid;
+      lambert = λ g kind. behind-shared d g kind ∙ ap pos (sym (ap templateOf kind) ∙ grid);
       product = product .template (taken-is-template file s (d .identification .reference) (judged .ofFour));
       kind = product .kind;
       level = level-number file s (d .definition .level) (told .level);

@@ -17,8 +17,11 @@ use Rattle.theorems_grammar.specs.Grammar.{Accepted}
 use Rattle.theorems_grammar.specs.Refusals.{Before, Faulty}
 use Rattle.section_1.specs.declared.Identification.{Identification}
 use Rattle.section_1.specs.declared.Identified.the-variants as Identified
+use Rattle.section_3_geometry.specs.declared.DegreeGrid.{DegreeGrid}
+use Rattle.section_3_geometry.specs.declared.LambertGrid.{LambertGrid}
 use Rattle.section_3_geometry.specs.declared.Grid.{Grid}
-use Rattle.section_3_geometry.specs.Geometry.{pointsOf}
+use Rattle.section_3_geometry.specs.declared.Grid.the-variants as Grid
+use Rattle.section_3_geometry.specs.Geometry.{pointsOf, templateOf}
 use Rattle.section_3.specs.declared.Gridded.the-variants as Gridded
 use Rattle.section_4.specs.declared.Defined.the-variants as Defined
 use Rattle.section_5.specs.declared.Representation.{Representation}
@@ -29,7 +32,7 @@ use Rattle.doubles.specs.Doubles as Doubles
 use Rattle.values_integers.specs.Integers.{integerAt}
 use Rattle.question.specs.Judged.{identificationOf, gridOf, productOf, representationOf, presenceOf, dataOf}
 use Rattle.question_decode.specs.Decoding.{valuesLeft, presenceLeft}
-use Rattle.theorems_demands.specs.Questions.{Question, verdict, describe, place, decode, describeInto, placeInto, answered, refused}
+use Rattle.theorems_demands.specs.Questions.{Question, verdict, describe, place, sheet, decode, describeInto, placeInto, sheetInto, answered, refused}
 
 -- Field k of the file lies at l: the grammar accepts the file, and l is the place of its field k, counted from 0 over all messages.
 pub record FieldAt (file : List ℕ) (k : ℕ) (l : Located) : Type 0 where
@@ -46,6 +49,8 @@ pub data Names : Question → ℕ → Type 0 where
   decodes : {k start values presence : ℕ} → Names (decode k start values presence) k
   describesInto : {k room : ℕ} → Names (describeInto k room) k
   placesInto : {k n room : ℕ} → Names (placeInto k n room) k
+  sheets : {k n : ℕ} → Names (sheet k n) k
+  sheetsInto : {k n room : ℕ} → Names (sheetInto k n room) k
 
 -- It is about the field of that number, which lies at l.
 pub record About (file : List ℕ) (q : Question) (l : Located) : Type 0 where
@@ -53,18 +58,21 @@ pub record About (file : List ℕ) (q : Question) (l : Located) : Type 0 where
   pub names : Names q k
   pub lies : FieldAt file k l
 
--- What else a question asks: the point that is to be placed, the start index and the lengths of the runs, or how many numbers are needed and for how many
--- there is room: a description has 53, and a position 2.
-pub data AsksPoint : Question → ℕ → Type 0 where
-  asks : {k n : ℕ} → AsksPoint (place k n) n
-  asksInto : {k n room : ℕ} → AsksPoint (placeInto k n room) n
+-- What else a question asks. Of a point: the template of the grids that it is about, the point, and for how many numbers there is room; an answer that is handed
+-- back has room for its two. Of all values: the start index and the lengths of the runs. Of a description: how many numbers it needs, which is 53 on a grid in
+-- degrees and 60 on a Lambert grid, and for how many there is room.
+pub data AsksPoint : Question → (template n room : ℕ) → Type 0 where
+  inDegrees : {k n : ℕ} → AsksPoint (place k n) 0 n 2
+  inDegreesInto : {k n room : ℕ} → AsksPoint (placeInto k n room) 0 n room
+  onSheet : {k n : ℕ} → AsksPoint (sheet k n) 30 n 2
+  onSheetInto : {k n room : ℕ} → AsksPoint (sheetInto k n room) 30 n room
 
 pub data Lends : Question → ℕ → ℕ → ℕ → Type 0 where
   lends : {k start values presence : ℕ} → Lends (decode k start values presence) start values presence
 
-pub data LendsNumbers : Question → (needed room : ℕ) → Type 0 where
-  forDescription : {k room : ℕ} → LendsNumbers (describeInto k room) 53 room
-  forPosition : {k n room : ℕ} → LendsNumbers (placeInto k n room) 2 room
+pub data LendsNumbers : Question → Grid → (needed room : ℕ) → Type 0 where
+  forDegrees : {k room : ℕ} {g : DegreeGrid} → LendsNumbers (describeInto k room) (Grid.Degrees g) 53 room
+  forLambert : {k room : ℕ} {g : LambertGrid} → LendsNumbers (describeInto k room) (Grid.Lambert g) 60 room
 
 -- The first fault in the order of the file: messages tile it up to p, and what stands there is none.
 pub record Fault (file : List ℕ) (why : declaredWhy.Why) (place : ℕ) : Type 0 where
@@ -122,8 +130,15 @@ pub data Applies (file : List ℕ) (q : Question) : (number place : ℕ) → Typ
       gridOf file l ≡ Gridded.On g →
       ((start + pointsOf g ≤ values) × (start + pointsOf g ≤ presence) → ⊥) →
       Applies file q 15 0
-  -- The run is too short for the numbers.
-  no-room-for-numbers : {l : Located} {needed room : ℕ} → About file q l → LendsNumbers q needed room → room < needed → Applies file q 15 0
+  -- The run is too short for the numbers of a description, or of a place, which are two.
+  no-room-for-numbers :
+      {l : Located} {g : Grid} {needed room : ℕ} →
+      About file q l →
+      gridOf file l ≡ Gridded.On g →
+      LendsNumbers q g needed room →
+      room < needed →
+      Applies file q 15 0
+  no-room-for-place : {l : Located} {template n room : ℕ} → About file q l → AsksPoint q template n room → room < 2 → Applies file q 15 0
   -- One of the N integers X that decode rebuilds is below 0 or above 2,147,483,647.
   out-of-range :
       {l : Located} {r : Representation} {start values presence m : ℕ} →
@@ -135,12 +150,20 @@ pub data Applies (file : List ℕ) (q : Question) : (number place : ℕ) → Typ
       Applies file q 16 (l .starts .seven .0)
   -- The field has no point n.
   no-such-point :
-      {l : Located} {g : Grid} {n : ℕ} →
+      {l : Located} {g : Grid} {template n room : ℕ} →
       About file q l →
-      AsksPoint q n →
+      AsksPoint q template n room →
       gridOf file l ≡ Gridded.On g →
       pointsOf g ≤ n →
       Applies file q 17 0
+  -- The grid is of the other kind: the question is about grids of another template.
+  other-grid :
+      {l : Located} {g : Grid} {template n room : ℕ} →
+      About file q l →
+      AsksPoint q template n room →
+      gridOf file l ≡ Gridded.On g →
+      (templateOf g ≡ template → ⊥) →
+      Applies file q 20 0
 
 -- The refusal that is given: it applies, and none of those that apply comes before it in the order of refusals.
 pub record First (file : List ℕ) (q : Question) (number place : ℕ) : Type 0 where

@@ -13,9 +13,15 @@ use Rattle.tiling.specs.declared.Checked.the-variants as Checked
 use Rattle.tiling.specs.Tiling.{check}
 use Rattle.theorems_grammar.specs.Grammar.{Accepted}
 use Rattle.section_3_geometry.specs.declared.Position.{Position}
+use Rattle.section_3_geometry.specs.declared.DegreeGrid.{DegreeGrid}
+use Rattle.section_3_geometry.specs.declared.LambertGrid.{LambertGrid}
+use Rattle.section_3_geometry.specs.declared.Grid.{Grid}
+use Rattle.section_3_geometry.specs.declared.Grid.the-variants as Grid
 use Rattle.section_3_geometry.specs.Geometry.{pointsOf}
 use Rattle.section_3_positions.specs.Positions.{LiesAt}
 use Rattle.section_3_positions.specs.Expected.{AsExpected}
+use Rattle.section_3_lambert.specs.declared.SheetPlace.{SheetPlace}
+use Rattle.section_3_lambert.specs.Sheet.{sheetOf}
 use Rattle.doubles.specs.Doubles.{valueOf}
 use Rattle.question.specs.declared.Description.{Description}
 use Rattle.question.specs.declared.Described.the-variants as Described
@@ -23,7 +29,8 @@ use Rattle.question.specs.Describe.{describe}
 use Rattle.question.specs.Judge.{integerOf}
 use Rattle.question.specs.Judged.{Judged}
 use Rattle.question_place.specs.declared.Placed.the-variants as Placed
-use Rattle.question_place.specs.Place.{place}
+use Rattle.question_place.specs.declared.OnSheet.the-variants as OnSheet
+use Rattle.question_place.specs.Place.{place, sheet}
 use Rattle.question_decode.specs.declared.Decoded as declared
 use Rattle.question_decode.specs.declared.Decoded.the-variants as Decoded
 use Rattle.question_decode.specs.Decoding.{presentOf, rankOf, answer, valuesLeft, presenceLeft}
@@ -74,6 +81,13 @@ module _ (file : List ℕ) (c : Call) (left : BothRuns) where
     pub before : (i : ℕ) → i < c .start → KeptAt i
     pub behind : (i : ℕ) → c .start + pointsOf (d .grid) ≤ i → KeptAt i
 
+-- Field k is described, this is its grid, and it has point n.
+pub record HasPoint (file : List ℕ) (k n : ℕ) (g : Grid) : Type 0 where
+  pub d : Description
+  pub describes : describe file k ≡ Described.As d
+  pub grid : d .grid ≡ g
+  pub below : n < pointsOf g
+
 -- The answer of a call, and the runs that it leaves, by the contract of decode.
 abbrev pub answerTo : List ℕ → Call → declared.Decoded
 answerTo file c = answer file (c .k) (c .start) (length (c .before .values)) (length (c .before .presence))
@@ -95,10 +109,10 @@ pub record Demand2 (file : List ℕ) : Type 0 where
   pub describes : (k : ℕ) (d : Description) → (describe file k ≡ Described.As d) ↔ ((l : Located) × FieldAt file k l × Judged file l d)
   -- The cases of that description have the numbers that the sections' octets hold.
   pub numbers : (l : Located) (d : Description) → Judged file l d → InNumbers file l d
-  -- Point n lies where its row and its column put it, evenly between the first point and the last; and so the points lie as a reader expects.
-  pub places :
-      (k n : ℕ) (p : Position) →
-      (place file k n ≡ Placed.At p) ↔ ((d : Description) × (describe file k ≡ Described.As d) × (n < pointsOf (d .grid)) × LiesAt (d .grid) n p)
-  pub expected : (k : ℕ) (d : Description) → describe file k ≡ Described.As d → AsExpected (d .grid)
+  -- Point n of a grid in degrees lies where its row and its column put it, evenly between the first point and the last; and so the points lie as a reader expects.
+  pub places : (k n : ℕ) (p : Position) → (place file k n ≡ Placed.At p) ↔ ((g : DegreeGrid) × HasPoint file k n (Grid.Degrees g) × LiesAt g n p)
+  pub expected : (k : ℕ) (d : Description) (g : DegreeGrid) → describe file k ≡ Described.As d → d .grid ≡ Grid.Degrees g → AsExpected g
+  -- Point n of a Lambert grid lies on the sheet its column times Dx to the right of the first point, and its row times Dy below it.
+  pub sheets : (k n : ℕ) (p : SheetPlace) → (sheet file k n ≡ OnSheet.At p) ↔ ((g : LambertGrid) × HasPoint file k n (Grid.Lambert g) × (p ≡ sheetOf g n))
   -- A call of decode that answers with a count has decoded field k, whose points they are.
   pub decodes : (c : Call) (n : ℕ) → answerTo file c ≡ Decoded.Points n → (d : Description) × Decodes file c (leftBehind file c) d × (pointsOf (d .grid) ≡ n)

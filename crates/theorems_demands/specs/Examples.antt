@@ -14,10 +14,12 @@ use Rattle.calendar.specs.declared.Unit.the-variants as Unit
 use Rattle.calendar.specs.declared.Later.the-variants as Later
 use Rattle.calendar.specs.Calendar.{date, plus}
 use Rattle.doubles.specs.Doubles.{valueOf}
-use Rattle.section_3_geometry.specs.declared.Grid.{Grid}
+use Rattle.section_3_geometry.specs.declared.DegreeGrid.{DegreeGrid}
+use Rattle.section_3_geometry.specs.declared.LambertGrid.{LambertGrid}
 use Rattle.section_3_geometry.specs.declared.Position.{Position}
-use Rattle.section_3_geometry.specs.Geometry.{spanEast, spanSouth}
-use Rattle.section_3_positions.specs.Positions.{columnOf, rowOf, LiesAt}
+use Rattle.section_3_geometry.specs.Geometry.{columnOf, rowOf, spanEast, spanSouth}
+use Rattle.section_3_positions.specs.Positions.{LiesAt}
+use Rattle.section_3_lambert.specs.Sheet.{sheetOf}
 use Rattle.section_6.specs.declared.Presence.the-variants as Presence
 use Rattle.section_6.specs.Presence.{bitmapLength, presentAt}
 use Rattle.section_5_groups.specs.declared.Grouping.{Grouping}
@@ -38,8 +40,8 @@ plain size = record { negative = false; size = size }
 abbrev lying : Bool → ℕ → ℕ → Position
 lying below size longitude = record { latitude = record { negative = below; size = size }; longitude = longitude }
 
-abbrev pub twoByThree : Grid
-twoByThree = record { earth = 6; radius = 6371229; ni = 2; nj = 3; first = lying false 1 359999999; last = lying true 1 0; di = 1; dj = 1 }
+abbrev pub twoByThree : DegreeGrid
+twoByThree = record { frame = record { earth = 6; radius = 6371229; ni = 2; nj = 3 }; first = lying false 1 359999999; last = lying true 1 0; di = 1; dj = 1 }
 
 -- A section 7 of nine octets: its length and number, the first value 5, the second 7 and Zmin -1 in one octet each, and then the values 0, 0, 3
 -- and 1 of one group, in two bits each. The group's reference is 0, and none of its numbers takes a bit.
@@ -90,8 +92,8 @@ pub record Examples : Type 0 where
   pub firstAndThird : examplePresent 0 ∷ examplePresent 1 ∷ examplePresent 2 ∷ examplePresent 3 ∷ [] ≡ 1 ∷ 0 ∷ 1 ∷ 0 ∷ []
   -- On every grid of 1,422 columns from 116.969697 to 160.030303 degrees, column 1421 lies at 160.030303.
   pub column1421 :
-      (g : Grid) (n : ℕ) (p : Position) →
-      g .ni ≡ 1422 → g .first .longitude ≡ 116969697 → g .last .longitude ≡ 160030303 → columnOf g n ≡ 1421 → LiesAt g n p → p .longitude ≡ 160030303
+      (g : DegreeGrid) (n : ℕ) (p : Position) →
+      g .frame .ni ≡ 1422 → g .first .longitude ≡ 116969697 → g .last .longitude ≡ 160030303 → columnOf (g .frame) n ≡ 1421 → LiesAt g n p → p .longitude ≡ 160030303
   -- The six points of a grid, along its rows.
   pub sixPoints :
       LiesAt twoByThree 0 (lying false 1 359999999)
@@ -101,5 +103,8 @@ pub record Examples : Type 0 where
       × LiesAt twoByThree 4 (lying true 1 359999999)
       × LiesAt twoByThree 5 (lying true 1 0)
   -- In the middle of a span of one millionth of a degree, a half goes east, and a half goes south.
-  pub halfEast : (g : Grid) (n : ℕ) (p : Position) → g .ni ≡ 3 → spanEast g ≡ 1 → columnOf g n ≡ 1 → (l : LiesAt g n p) → l .east ≡ 1
-  pub halfSouth : (g : Grid) (n : ℕ) (p : Position) → g .nj ≡ 3 → spanSouth g ≡ 1 → rowOf g n ≡ 1 → (l : LiesAt g n p) → l .south ≡ 1
+  pub halfEast : (g : DegreeGrid) (n : ℕ) (p : Position) → g .frame .ni ≡ 3 → spanEast g ≡ 1 → columnOf (g .frame) n ≡ 1 → (l : LiesAt g n p) → l .east ≡ 1
+  pub halfSouth : (g : DegreeGrid) (n : ℕ) (p : Position) → g .frame .nj ≡ 3 → spanSouth g ≡ 1 → rowOf (g .frame) n ≡ 1 → (l : LiesAt g n p) → l .south ≡ 1
+  -- Of a sheet of 817 x 661 points, 5 km apart, the last lies 4,080 km to the right of the first and 3,300 km below it. Point 817 is the first of the second row.
+  pub lastOnSheet : (g : LambertGrid) → g .frame .ni ≡ 817 → g .dx ≡ 5000000 → g .dy ≡ 5000000 → sheetOf g 540036 ≡ record { right = 4080000000; down = 3300000000 }
+  pub secondRow : (g : LambertGrid) → g .frame .ni ≡ 817 → sheetOf g 817 ≡ record { right = 0; down = g .dy }

@@ -1,5 +1,5 @@
--- RULES, "Examples on either side" and "Listing": the file of 276 octets with two fields, the file with the first of them alone, and that field on a grid whose
--- steps do not lead to its last point.
+-- RULES, "Examples on either side" and "Listing": the file of 276 octets with two fields, the file with the first of them alone, that field on a grid whose
+-- steps do not lead to its last point, and that field on a Lambert grid.
 use Prim.Native.Nat.{ℕ}
 use mathlib.Core.List.{List, [], _∷_, _++_}
 
@@ -33,6 +33,16 @@ rowOfFour =
     0x00 ∷ 0x04 ∷ 0x00 ∷ 0x00 ∷ 0x00 ∷ 0x01 ∷ 0x00 ∷ 0x00 ∷ 0x00 ∷ 0x00 ∷ 0xff ∷ 0xff ∷ 0xff ∷ 0xff ∷ 0x02 ∷ 0x25 ∷
     0x51 ∷ 0x00 ∷ 0x08 ∷ 0x0b ∷ 0xef ∷ 0xc0 ∷ 0x30 ∷ 0x02 ∷ 0x25 ∷ 0x51 ∷ 0x00 ∷ 0x08 ∷ 0x1b ∷ 0x32 ∷ 0x01 ∷ 0x00 ∷
     0x05 ∷ 0x16 ∷ 0x15 ∷ 0x00 ∷ 0x00 ∷ 0x00 ∷ 0x00 ∷ 0x00 ∷ []
+
+-- Section 3: 2 x 2 points of a Lambert grid, 5 km apart in a row and 4 km from row to row.
+abbrev fourOnASheet : List ℕ
+fourOnASheet =
+    0x00 ∷ 0x00 ∷ 0x00 ∷ 0x51 ∷ 0x03 ∷ 0x00 ∷ 0x00 ∷ 0x00 ∷ 0x00 ∷ 0x04 ∷ 0x00 ∷ 0x00 ∷ 0x00 ∷ 0x1e ∷ 0x01 ∷ 0x00 ∷
+    0x00 ∷ 0x61 ∷ 0x36 ∷ 0xb8 ∷ 0xff ∷ 0xff ∷ 0xff ∷ 0xff ∷ 0xff ∷ 0xff ∷ 0xff ∷ 0xff ∷ 0xff ∷ 0xff ∷ 0x00 ∷ 0x00 ∷
+    0x00 ∷ 0x02 ∷ 0x00 ∷ 0x00 ∷ 0x00 ∷ 0x02 ∷ 0x02 ∷ 0xa1 ∷ 0x7d ∷ 0x3d ∷ 0x06 ∷ 0x14 ∷ 0x87 ∷ 0xb6 ∷ 0x08 ∷ 0x01 ∷
+    0xc9 ∷ 0xc3 ∷ 0x80 ∷ 0x08 ∷ 0x58 ∷ 0x3b ∷ 0x00 ∷ 0x00 ∷ 0x4c ∷ 0x4b ∷ 0x40 ∷ 0x00 ∷ 0x3d ∷ 0x09 ∷ 0x00 ∷ 0x00 ∷
+    0x00 ∷ 0x03 ∷ 0x93 ∷ 0x87 ∷ 0x00 ∷ 0x01 ∷ 0xc9 ∷ 0xc3 ∷ 0x80 ∷ 0xff ∷ 0xff ∷ 0xff ∷ 0xff ∷ 0xff ∷ 0xff ∷ 0xff ∷
+    0xff ∷ []
 
 -- The first field, temperature at 10 m one hour ahead: 12 bits, D 1, the bitmap 0xA0, and the values 2912 and 2748, which are 291.2 and 274.8 K.
 abbrev temperature4 : List ℕ
@@ -75,7 +85,7 @@ abbrev rain7 : List ℕ
 rain7 =
     0x00 ∷ 0x00 ∷ 0x00 ∷ 0x08 ∷ 0x07 ∷ 0x00 ∷ 0x50 ∷ 0x07 ∷ []
 
--- The file with both fields, the one with the first alone, and the one with the first in a row.
+-- The file with both fields, the one with the first alone, the one with the first in a row, and the one with the first on a sheet.
 unfoldable pub twoFields : List ℕ
 twoFields = section0 0x01 0x14 ++ section1 ++ section3 ++ temperature4 ++ temperature5 ++ temperature6 ++ temperature7 ++ rain4 ++ rain5 ++ rain6 ++ rain7 ++ section8
 
@@ -84,3 +94,6 @@ oneField = section0 0x00 0xb7 ++ section1 ++ section3 ++ temperature4 ++ tempera
 
 unfoldable pub fieldInARow : List ℕ
 fieldInARow = section0 0x00 0xb7 ++ section1 ++ rowOfFour ++ temperature4 ++ temperature5 ++ temperature6 ++ temperature7 ++ section8
+
+unfoldable pub fieldOnASheet : List ℕ
+fieldOnASheet = section0 0x00 0xc0 ++ section1 ++ fourOnASheet ++ temperature4 ++ temperature5 ++ temperature6 ++ temperature7 ++ section8

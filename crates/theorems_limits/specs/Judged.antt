@@ -34,7 +34,7 @@ use Rattle.section_6.specs.Presence.{presenceAt}
 use Rattle.section_7.specs.declared.Packed.{Packed}
 use Rattle.section_7.specs.declared.Packed.the-variants as Packed
 use Rattle.section_7.specs.Packing.{dataAt}
-use Rattle.theorems_limits.specs.Samples.{holding, start, inFile, sample1, sample3, sphere3, instant4, interval4, simple5, complex5, bitmap6, complex7}
+use Rattle.theorems_limits.specs.Samples.{holding, start, inFile, sample1, sample3, sphere3, lambert3, lambertSphere3, instant4, interval4, simple5, complex5, bitmap6, complex7}
 
 abbrev every : (ℕ → Bool) → List ℕ → Bool
 every judged [] = true
@@ -89,6 +89,16 @@ octets3 a b number = taken3 (holding a b number sample3)
 
 abbrev pub octetsSphere : ℕ → ℕ → ℕ → Bool
 octetsSphere a b number = taken3 (holding a b number sphere3)
+
+-- The same of a Lambert grid, and one of so many columns and rows.
+abbrev pub octetsLambert : ℕ → ℕ → ℕ → Bool
+octetsLambert a b number = taken3 (holding a b number lambert3)
+
+abbrev pub octetsLambertSphere : ℕ → ℕ → ℕ → Bool
+octetsLambertSphere a b number = taken3 (holding a b number lambertSphere3)
+
+abbrev pub sheeted : ℕ → ℕ → ℕ → Bool
+sheeted columns rows points = taken3 (holding 7 10 points (holding 31 34 columns (holding 35 38 rows lambert3)))
 
 -- A grid of so many columns and rows, all in one place, with steps of 0: the octets tell so many points.
 abbrev onePlace3 : List ℕ

@@ -15,9 +15,13 @@ use Rattle.calendar.specs.Calendar.{plus, fourteenDigits, digitsOf}
 use Rattle.tiling_sections.specs.declared.Bitmap.the-variants as Bitmap
 use Rattle.section_1.specs.declared.Identified.the-variants as Identified
 use Rattle.section_1.specs.Identification.{identificationAt}
+use Rattle.section_3_geometry.specs.declared.LambertGrid.{LambertGrid}
 use Rattle.section_3_geometry.specs.declared.Grid.{Grid}
-use Rattle.section_3_geometry.specs.Geometry.{southOf}
+use Rattle.section_3_geometry.specs.declared.Grid.the-variants as Grid
+use Rattle.section_3_geometry.specs.Geometry.{southOf, templateOf}
 use Rattle.section_3_positions.specs.Positions.{longitudeAt, latitudeAt}
+use Rattle.section_3_lambert.specs.declared.SheetPlace.{SheetPlace}
+use Rattle.section_3_lambert.specs.Sheet.{sheetOf}
 use Rattle.section_3.specs.declared.Gridded.the-variants as Gridded
 use Rattle.section_3.specs.Section3.{gridAt}
 use Rattle.section_4.specs.declared.Level.{Level}
@@ -45,22 +49,37 @@ use Rattle.section_7.specs.declared.Data.the-variants as Data
 use Rattle.section_7.specs.declared.Packed.{Packed}
 use Rattle.section_7.specs.declared.Packed.the-variants as Packed
 use Rattle.section_7.specs.Packing.{dataAt}
-use Rattle.theorems_limits.specs.Samples.{holding, start, inFile, sample1, sample3, sphere3, instant4, interval4, simple5, complex5, bitmap6, complex7}
-use Rattle.theorems_limits.specs.Judged.{_takes_refuses_, clock, above, below, minus2, minus4, octets1, dated, octets3, octetsSphere, heaped, latitudes, longitudes, fromEast, fromNorth, reference, octets4, octetsInterval, octetsLevelless, inLastHour, octetsSimple, octetsComplex, grouped5, octetsBitmap, octetsUnmapped, theBitmap, valuesBy, grouping7, taken7}
+use Rattle.theorems_limits.specs.Samples.{holding, start, inFile, sample1, sample3, sphere3, lambert3, lambertSphere3, instant4, interval4, simple5, complex5, bitmap6, complex7}
+use Rattle.theorems_limits.specs.Judged.{_takes_refuses_, clock, above, below, minus2, minus4, octets1, dated, octets3, octetsSphere, octetsLambert, octetsLambertSphere, sheeted, heaped, latitudes, longitudes, fromEast, fromNorth, reference, octets4, octetsInterval, octetsLevelless, inLastHour, octetsSimple, octetsComplex, grouped5, octetsBitmap, octetsUnmapped, theBitmap, valuesBy, grouping7, taken7}
 
 -- Section 3's sample as it is read: the grid, on an earth of code 6, and on a sphere with a radius of its own.
 abbrev sampleGrid : ℕ → ℕ → Grid
 sampleGrid earth radius =
+    Grid.Degrees (
     record {
-      earth = earth;
-      radius = radius;
-      ni = 3;
-      nj = 2;
+      frame = record { earth = earth; radius = radius; ni = 3; nj = 2 };
       first = record { latitude = above 36000001; longitude = 135000002 };
       last = record { latitude = above 18999998; longitude = 175000010 };
       di = 20000004;
       dj = 17000003;
+    })
+
+abbrev sampleLambert : ℕ → ℕ → LambertGrid
+sampleLambert earth radius =
+    record {
+      frame = record { earth = earth; radius = radius; ni = 3; nj = 2 };
+      first = record { latitude = above 44137789; longitude = 102008758 };
+      stated = above 30000002;
+      upright = 140000005;
+      dx = 16909060;
+      dy = 84281096;
+      cut1 = above 60000003;
+      cut2 = below 29999996;
     }
+
+-- A place on the sheet, so far to the right and so far down.
+abbrev rightAndDown : ℕ → ℕ → SheetPlace
+rightAndDown right down = record { right = right; down = down }
 
 -- Section 4's sample as it is read.
 abbrev sampleProduct : Time → Level → Declared.Product → Defined
@@ -141,11 +160,11 @@ pub record SectionLimits : Type 0 where
   pub characters : digitsOf (clock 2017 5 15 13 46 29) ≡ 50 ∷ 48 ∷ 49 ∷ 55 ∷ 48 ∷ 53 ∷ 49 ∷ 53 ∷ 49 ∷ 51 ∷ 52 ∷ 54 ∷ 50 ∷ 57 ∷ []
   pub charactersOf1999 : digitsOf (clock 1999 12 30 8 0 59) ≡ 49 ∷ 57 ∷ 57 ∷ 57 ∷ 49 ∷ 50 ∷ 51 ∷ 48 ∷ 48 ∷ 56 ∷ 48 ∷ 48 ∷ 53 ∷ 57 ∷ []
   -- Section 3: length, octets 6, 11 and 12 and the template.
-  pub length3 : octets3 1 4 takes (72 ∷ []) refuses (71 ∷ 73 ∷ [])
+  pub length3 : octets3 1 4 takes (72 ∷ []) refuses (71 ∷ 73 ∷ 81 ∷ [])
   pub grid6 : octets3 6 6 takes (0 ∷ []) refuses (1 ∷ [])
   pub grid11 : octets3 11 11 takes (0 ∷ []) refuses (1 ∷ [])
   pub grid12 : octets3 12 12 takes (0 ∷ []) refuses (1 ∷ [])
-  pub template3 : octets3 13 14 takes (0 ∷ []) refuses (1 ∷ 256 ∷ [])
+  pub template3 : octets3 13 14 takes (0 ∷ []) refuses (1 ∷ 30 ∷ 256 ∷ [])
   -- The earth, and what is read.
   pub earths : octetsSphere 15 15 takes (1 ∷ 6 ∷ []) refuses (0 ∷ 2 ∷ 5 ∷ 7 ∷ [])
   pub grid16 : octetsSphere 16 16 takes (0 ∷ []) refuses (1 ∷ [])
@@ -181,6 +200,43 @@ pub record SectionLimits : Type 0 where
   pub pastTheTurn : map longitudeAt (0 ∷ 359999999 ∷ 360000000 ∷ 719999998 ∷ []) ≡ 0 ∷ 359999999 ∷ 0 ∷ 359999998 ∷ []
   pub fromThePole : map southOf (above 90000000 ∷ above 1 ∷ above 0 ∷ below 1 ∷ below 90000000 ∷ []) ≡ 0 ∷ 89999999 ∷ 90000000 ∷ 90000001 ∷ 180000000 ∷ []
   pub toThePole : map latitudeAt (0 ∷ 89999999 ∷ 90000000 ∷ 90000001 ∷ 180000000 ∷ []) ≡ above 90000000 ∷ above 1 ∷ above 0 ∷ below 1 ∷ below 90000000 ∷ []
+  -- A Lambert grid: length, octets 6, 11 and 12 and the template.
+  pub lambertLength : octetsLambert 1 4 takes (81 ∷ []) refuses (72 ∷ 80 ∷ 82 ∷ [])
+  pub lambert6 : octetsLambert 6 6 takes (0 ∷ []) refuses (1 ∷ [])
+  pub lambert11 : octetsLambert 11 11 takes (0 ∷ []) refuses (1 ∷ [])
+  pub lambert12 : octetsLambert 12 12 takes (0 ∷ []) refuses (1 ∷ [])
+  pub lambertTemplate : octetsLambert 13 14 takes (30 ∷ []) refuses (0 ∷ 29 ∷ 31 ∷ 286 ∷ [])
+  -- The earth and the counts, as for a grid in degrees.
+  pub lambertEarths : octetsLambertSphere 15 15 takes (1 ∷ 6 ∷ []) refuses (0 ∷ 2 ∷ 5 ∷ 7 ∷ [])
+  pub lambert16 : octetsLambertSphere 16 16 takes (0 ∷ []) refuses (1 ∷ [])
+  pub lambertRadii : octetsLambertSphere 17 20 takes (1 ∷ 0xffff_fffe ∷ []) refuses (0 ∷ 0xffff_ffff ∷ [])
+  pub lambertColumns : (λ ni. sheeted ni 1 ni) takes (1 ∷ 65535 ∷ []) refuses (0 ∷ 65536 ∷ [])
+  pub lambertRows : (λ nj. sheeted 1 nj nj) takes (1 ∷ 65535 ∷ []) refuses (0 ∷ 65536 ∷ [])
+  pub lambertMost : (sheeted 4096 4096 16777216 ≡ true) × (sheeted 24929 673 16777217 ≡ false)
+  pub lambertPoints : octetsLambert 7 10 takes (6 ∷ []) refuses (5 ∷ 7 ∷ 16777222 ∷ [])
+  pub lambert31 : octetsLambert 31 34 takes (3 ∷ []) refuses (2 ∷ 4 ∷ 16777219 ∷ [])
+  pub lambert35 : octetsLambert 35 38 takes (2 ∷ []) refuses (1 ∷ 3 ∷ 16777218 ∷ [])
+  -- Winds along the grid, the north pole, and the order of the points.
+  pub lambert47 : octetsLambert 47 47 takes (0x08 ∷ []) refuses (0 ∷ 0x07 ∷ 0x09 ∷ 0x30 ∷ 0x38 ∷ [])
+  pub lambert64 : octetsLambert 64 64 takes (0 ∷ []) refuses (1 ∷ 0x80 ∷ [])
+  pub lambert65 : octetsLambert 65 65 takes (0 ∷ []) refuses (1 ∷ 0x40 ∷ 0x80 ∷ [])
+  -- Its latitudes and longitudes, and its lengths.
+  pub firstOnSheet : octetsLambert 39 42 takes (0 ∷ 90000000 ∷ minus4 90000000 ∷ []) refuses (90000001 ∷ minus4 90000001 ∷ [])
+  pub lambert43 : octetsLambert 43 46 takes (0 ∷ 359999999 ∷ []) refuses (360000000 ∷ [])
+  pub statedLatitudes : octetsLambert 48 51 takes (0 ∷ 90000000 ∷ minus4 90000000 ∷ []) refuses (90000001 ∷ minus4 90000001 ∷ [])
+  pub uprightMeridians : octetsLambert 52 55 takes (0 ∷ 359999999 ∷ []) refuses (360000000 ∷ [])
+  pub lengthsAcross : octetsLambert 56 59 takes (1 ∷ 2147483647 ∷ []) refuses (0 ∷ 2147483648 ∷ [])
+  pub lengthsDown : octetsLambert 60 63 takes (1 ∷ 2147483647 ∷ []) refuses (0 ∷ 2147483648 ∷ [])
+  pub cutting1 : octetsLambert 66 69 takes (0 ∷ 90000000 ∷ minus4 90000000 ∷ []) refuses (90000001 ∷ minus4 90000001 ∷ [])
+  pub cutting2 : octetsLambert 70 73 takes (0 ∷ 90000000 ∷ minus4 90000000 ∷ []) refuses (90000001 ∷ minus4 90000001 ∷ [])
+  pub lambert74 : octetsLambert 74 81 takes (0 ∷ 0xffff_ffff_ffff_ffff ∷ []) refuses []
+  -- What is read of it, and where its points lie on the sheet.
+  pub readLambert : gridAt (inFile lambert3) start ≡ Gridded.On (Grid.Lambert (sampleLambert 6 6371229))
+  pub readLambertSphere : gridAt (inFile (holding 17 20 0x0102_0304 lambertSphere3)) start ≡ Gridded.On (Grid.Lambert (sampleLambert 1 0x0102_0304))
+  pub onSheet :
+      map (sheetOf (sampleLambert 6 6371229)) (0 ∷ 2 ∷ 3 ∷ 5 ∷ [])
+      ≡ rightAndDown 0 0 ∷ rightAndDown 33818120 0 ∷ rightAndDown 0 84281096 ∷ rightAndDown 33818120 84281096 ∷ []
+  pub templates : map templateOf (sampleGrid 6 6371229 ∷ Grid.Lambert (sampleLambert 6 6371229) ∷ []) ≡ 0 ∷ 30 ∷ []
   -- Section 4: length and template, octets 6-7, the unit, the forecast, the first surface and the second.
   pub length4 : octets4 1 4 takes (34 ∷ []) refuses (33 ∷ 35 ∷ 58 ∷ [])
   pub length8 : octetsInterval 1 4 takes (58 ∷ []) refuses (34 ∷ 57 ∷ 59 ∷ [])

@@ -11,15 +11,28 @@ use Rattle.listing_lines.proofs as listing-lines
 use Rattle.listing_file.proofs as listing-file
 use Rattle.listing_file.proofs.Laws.{print-one}
 
--- What is described, how a question is judged, and where a point is placed.
+-- What is described, how a question is judged, and where a point is placed, in degrees and on the sheet.
 pub question-describe : Determined question.describe.ended (λ _. question.describe.clauses)
 question-describe _ 𝓤 _ _ _ _ _ _ _ _ _ _ _ _ = one 𝓤 (λ p q. (alike p q, refl))
 
-pub question-judge : Determined question.judge.ended (λ _. question.judge.clauses)
-question-judge _ 𝓤 _ _ _ _ _ _ _ _ _ _ _ _ = one 𝓤 (λ p q. (alike p q, refl))
+pub question-judge-numbers : Determined question.judge_numbers.ended (λ _. question.judge_numbers.clauses)
+question-judge-numbers _ 𝓤 _ _ _ _ _ _ _ _ _ _ _ _ = one 𝓤 (λ p q. (alike p q, refl))
+
+pub question-judge-values : Determined question.judge_values.ended (λ _. question.judge_values.clauses)
+question-judge-values _ 𝓤 _ _ _ _ _ _ _ _ _ _ _ _ = one 𝓤 (λ p q. (alike p q, refl))
 
 pub question-place-place : Determined question-place.place.ended (λ _. question-place.place.clauses)
 question-place-place _ 𝓤 _ _ _ _ _ _ _ _ _ _ _ _ = one 𝓤 (λ p q. (alike p q, refl))
+
+pub question-place-sheet : Determined question-place.sheet.ended (λ _. question-place.sheet.clauses)
+question-place-sheet _ 𝓤 _ _ _ _ _ _ _ _ _ _ _ _ = one 𝓤 (λ p q. (alike p q, refl))
+
+-- On which grid a point is told, or why it is not.
+pub question-place-on-degrees : Determined question-place.on_degrees.ended (λ _. question-place.on_degrees.clauses)
+question-place-on-degrees _ 𝓤 _ _ _ _ _ _ _ _ _ _ _ _ = one 𝓤 (λ p q. (alike p q, refl))
+
+pub question-place-on-lambert : Determined question-place.on_lambert.ended (λ _. question-place.on_lambert.clauses)
+question-place-on-lambert _ 𝓤 _ _ _ _ _ _ _ _ _ _ _ _ = one 𝓤 (λ p q. (alike p q, refl))
 
 -- What is answered, and both runs afterwards.
 pub question-decode-decode : Determined question-decode.decode.ended (λ _. question-decode.decode.clauses)
@@ -41,12 +54,18 @@ skeptolyr-skeptolyr-describe _ 𝓤 _ _ _ _ _ _ _ _ _ _ _ _ = two 𝓤 (λ p q. 
 pub skeptolyr-skeptolyr-place : Determined skeptolyr.skeptolyr_place.ended (λ _. skeptolyr.skeptolyr_place.clauses)
 skeptolyr-skeptolyr-place _ 𝓤 _ _ _ _ _ _ _ _ _ _ _ _ = two 𝓤 (λ p q. (alike (p .0) (q .0), λ i. (tt, (tt, (tt, (alike (p .1) (q .1) i, tt))))))
 
--- The numbers of a description and of a position, put into a lent run: where they end, and what the run holds afterwards.
+pub skeptolyr-skeptolyr-sheet : Determined skeptolyr.skeptolyr_sheet.ended (λ _. skeptolyr.skeptolyr_sheet.clauses)
+skeptolyr-skeptolyr-sheet _ 𝓤 _ _ _ _ _ _ _ _ _ _ _ _ = two 𝓤 (λ p q. (alike (p .0) (q .0), λ i. (tt, (tt, (tt, (alike (p .1) (q .1) i, tt))))))
+
+-- The numbers of a description and of a place, put into a lent run: where they end, and what the run holds afterwards.
 pub question-numbers-put-description : Determined question-numbers.put_description.ended (λ _. question-numbers.put_description.clauses)
 question-numbers-put-description _ 𝓤 _ _ _ _ _ _ _ _ _ _ _ _ = one 𝓤 (λ p q. (alike (p .1) (q .1), λ i. (alike (p .0) (q .0) i, (tt, tt))))
 
 pub question-numbers-put-position : Determined question-numbers.put_position.ended (λ _. question-numbers.put_position.clauses)
 question-numbers-put-position _ 𝓤 _ _ _ _ _ _ _ _ _ _ _ _ = one 𝓤 (λ p q. (alike (p .1) (q .1), λ i. (alike (p .0) (q .0) i, (tt, tt))))
+
+pub question-numbers-put-sheet : Determined question-numbers.put_sheet.ended (λ _. question-numbers.put_sheet.clauses)
+question-numbers-put-sheet _ 𝓤 _ _ _ _ _ _ _ _ _ _ _ _ = one 𝓤 (λ p q. (alike (p .1) (q .1), λ i. (alike (p .0) (q .0) i, (tt, tt))))
 
 -- What a line says, put into a lent run: where it ends, and what the run holds afterwards.
 pub listing-lines-put-refusal : Determined listing-lines.put_refusal.ended (λ _. listing-lines.put_refusal.clauses)

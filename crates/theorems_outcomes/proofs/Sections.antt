@@ -6,6 +6,7 @@ use Rattle.theorems_outcomes.proofs.Facts.{alike, one}
 use Rattle.section_1.proofs as section-1
 use Rattle.section_3_geometry.proofs as section-3-geometry
 use Rattle.section_3_positions.proofs as section-3-positions
+use Rattle.section_3_lambert.proofs as section-3-lambert
 use Rattle.section_3.proofs as section-3
 use Rattle.section_4.proofs as section-4
 use Rattle.section_5_groups.proofs as section-5-groups
@@ -19,6 +20,15 @@ pub section-1-identification-at : Determined section-1.identification_at.ended (
 section-1-identification-at _ 𝓤 _ _ _ _ _ _ _ _ _ _ _ _ = one 𝓤 (λ p q. (alike p q, refl))
 
 -- The points of a grid.
+pub section-3-geometry-frame-of : Determined section-3-geometry.frame_of.ended (λ _. section-3-geometry.frame_of.clauses)
+section-3-geometry-frame-of _ 𝓤 _ _ _ _ _ _ _ _ _ _ _ _ = one 𝓤 (λ p q. (alike p q, refl))
+
+pub section-3-geometry-is-counted : Determined section-3-geometry.is_counted.ended (λ _. section-3-geometry.is_counted.clauses)
+section-3-geometry-is-counted _ 𝓤 _ _ _ _ _ _ _ _ _ _ _ _ = one 𝓤 (λ p q. (alike p q, refl))
+
+pub section-3-geometry-is-position : Determined section-3-geometry.is_position.ended (λ _. section-3-geometry.is_position.clauses)
+section-3-geometry-is-position _ 𝓤 _ _ _ _ _ _ _ _ _ _ _ _ = one 𝓤 (λ p q. (alike p q, refl))
+
 pub section-3-geometry-is-taken : Determined section-3-geometry.is_taken.ended (λ _. section-3-geometry.is_taken.clauses)
 section-3-geometry-is-taken _ 𝓤 _ _ _ _ _ _ _ _ _ _ _ _ = one 𝓤 (λ p q. (alike p q, refl))
 
@@ -36,6 +46,12 @@ section-3-geometry-points-of _ 𝓤 _ _ _ _ _ _ _ _ _ _ _ _ = one 𝓤 (λ p q. 
 
 pub section-3-positions-position-of : Determined section-3-positions.position_of.ended (λ _. section-3-positions.position_of.clauses)
 section-3-positions-position-of _ 𝓤 _ _ _ _ _ _ _ _ _ _ _ _ = one 𝓤 (λ p q. (alike p q, refl))
+
+pub section-3-lambert-is-taken : Determined section-3-lambert.is_taken.ended (λ _. section-3-lambert.is_taken.clauses)
+section-3-lambert-is-taken _ 𝓤 _ _ _ _ _ _ _ _ _ _ _ _ = one 𝓤 (λ p q. (alike p q, refl))
+
+pub section-3-lambert-sheet-of : Determined section-3-lambert.sheet_of.ended (λ _. section-3-lambert.sheet_of.clauses)
+section-3-lambert-sheet-of _ 𝓤 _ _ _ _ _ _ _ _ _ _ _ _ = one 𝓤 (λ p q. (alike p q, refl))
 
 -- Section 3.
 pub section-3-grid-at : Determined section-3.grid_at.ended (λ _. section-3.grid_at.clauses)

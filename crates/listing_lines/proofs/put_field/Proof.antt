@@ -7,6 +7,7 @@ use lib.ListN.{length}
 use mir.Facts.{fits-widen}
 use borrow.Author.Needs.{needs}
 use Rattle.calendar.specs.Calendar.{digitsOf}
+use Rattle.section_3_geometry.specs.Geometry.{frameOf}
 use Rattle.text.specs.Text.{ascii, decimal}
 use Rattle.text.proofs.Laws.{decimal-short}
 use Rattle.listing_lines.specs.Lines.{subjectText, sizeText, listedTime}
@@ -28,7 +29,7 @@ abbrev text-4 : tie.Start → List ℕ
 text-4 s = text-3 s ++ ascii " "
 
 abbrev text-5 : tie.Start → List ℕ
-text-5 s = text-4 s ++ sizeText (s .args .description .grid)
+text-5 s = text-4 s ++ sizeText (frameOf (s .args .description .grid))
 
 abbrev text-6 : tie.Start → List ℕ
 text-6 s = text-5 s ++ ascii " "
@@ -56,7 +57,7 @@ abbrev start-4 : tie.After-put2 → tie.Start
 start-4 c = start-3 (c .before .before .before .before .before)
 
 abbrev start-5 : tie.After-put-size → tie.Start
-start-5 c = start-4 (c .before .before .before .before)
+start-5 c = start-4 (c .before .before .before .before .before)
 
 abbrev start-6 : tie.After-put3 → tie.Start
 start-6 c = start-5 (c .before .before .before .before .before)
@@ -93,7 +94,7 @@ told-4 c = told-then (ascii " ") 1 77 (told-3 (c .before .before .before .before
 told-5 : (c : tie.After-put-size) → Stands (start-5 c) (text-5 (start-5 c)) 36 (c .put-size .last .0) (c .put-size .result)
 told-5 c =
     let s = start-5 c in
-    told-then (sizeText (s .args .description .grid)) 41 36 (told-4 (c .before .before .before .before)) (size-short (s .args .description .grid)) (c .put-size .ensures)
+    told-then (sizeText (frameOf (s .args .description .grid))) 41 36 (told-4 (c .before .before .before .before .before)) (size-short (frameOf (s .args .description .grid))) (rw (c .before .frame-of .ensures) at (c .put-size .ensures))
 
 told-6 : (c : tie.After-put3) → Stands (start-6 c) (text-6 (start-6 c)) 35 (c .put3 .last .0) (c .put3 .result)
 told-6 c = told-then (ascii " ") 1 35 (told-5 (c .before .before .before .before .before)) (omega arith) (c .put3 .ensures)
@@ -134,8 +135,11 @@ slice-aggregate-put-2 c = search needs
 put-requires-2 : tie.Need-put-requires-2
 put-requires-2 c κs = told-room 1 (omega arith) (told-3 (c .before .before .before .before))
 
+frame-of-requires : tie.Need-frame-of-requires
+frame-of-requires c κs = search needs
+
 put-size-requires : tie.Need-put-size-requires
-put-size-requires c κs = told-room 41 (omega arith) (told-4 (c .before .before .before))
+put-size-requires c κs = told-room 41 (omega arith) (told-4 (c .before .before .before .before))
 
 slice-aggregate-put-3 : tie.Need-slice-aggregate-put-3
 slice-aggregate-put-3 c = search needs
@@ -186,6 +190,7 @@ put-field-spec =
     put-decimal-requires
     slice-aggregate-put-2
     put-requires-2
+    frame-of-requires
     put-size-requires
     slice-aggregate-put-3
     put-requires-3

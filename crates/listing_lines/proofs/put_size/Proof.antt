@@ -11,13 +11,13 @@ use Rattle.listing_lines.proofs.put_size.Tie as tie
 
 -- The text up to its first piece, up to its second one and so on.
 abbrev text-1 : tie.Start → List ℕ
-text-1 s = decimal (s .args .grid .ni)
+text-1 s = decimal (s .args .frame .ni)
 
 abbrev text-2 : tie.Start → List ℕ
 text-2 s = text-1 s ++ ascii "x"
 
 abbrev text-3 : tie.Start → List ℕ
-text-3 s = text-2 s ++ decimal (s .args .grid .nj)
+text-3 s = text-2 s ++ decimal (s .args .frame .nj)
 
 -- Where the function began, from behind the call that puts each piece.
 abbrev start-1 : tie.After-put-decimal → tie.Start
@@ -36,7 +36,7 @@ Stands s = Told (s .args .run .now) (s .args .at)
 told-1 : (c : tie.After-put-decimal) → Stands (start-1 c) (text-1 (start-1 c)) 21 (c .put-decimal .last .0) (c .put-decimal .result)
 told-1 c =
     let s = start-1 c in
-    told-then (decimal (s .args .grid .ni)) 20 21 (told-none _ _ 41 (s .pre)) (decimal-short _) (c .put-decimal .ensures)
+    told-then (decimal (s .args .frame .ni)) 20 21 (told-none _ _ 41 (s .pre)) (decimal-short _) (c .put-decimal .ensures)
 
 told-2 : (c : tie.After-put) → Stands (start-2 c) (text-2 (start-2 c)) 20 (c .put .last .0) (c .put .result)
 told-2 c = told-then (ascii "x") 1 20 (told-1 (c .before .before .before .before .before)) (omega arith) (c .put .ensures)
@@ -44,7 +44,7 @@ told-2 c = told-then (ascii "x") 1 20 (told-1 (c .before .before .before .before
 told-3 : (c : tie.After-put-decimal2) → Stands (start-3 c) (text-3 (start-3 c)) 0 (c .put-decimal2 .last .0) (c .put-decimal2 .result)
 told-3 c =
     let s = start-3 c in
-    told-then (decimal (s .args .grid .nj)) 20 0 (told-2 (c .before .before .before .before .before)) (decimal-short _) (c .put-decimal2 .ensures)
+    told-then (decimal (s .args .frame .nj)) 20 0 (told-2 (c .before .before .before .before .before)) (decimal-short _) (c .put-decimal2 .ensures)
 
 cast-put-decimal : tie.Need-cast-put-decimal
 cast-put-decimal c = search needs

@@ -3,7 +3,7 @@ use mathlib.Core.Path.{_≡_, sym, ap, _∙_}
 use Rattle.section_1.proofs.Laws.{identified-gregorian}
 use Rattle.section_3.specs.declared.Gridded.{Gridded}
 use Rattle.section_3.specs.Section3.{gridAt}
-use Rattle.section_3.proofs.Laws.{grid-taken}
+use Rattle.section_3.proofs.Laws.{grid-few}
 use Rattle.question.specs.declared.Described.{Described}
 use Rattle.question.specs.Describe.{gridded, identified, describedAt}
 use borrow.Author.Needs.{needs}
@@ -64,7 +64,7 @@ defined-in-requires c κs =
     let file = start .args .file .now in
     let of-one = sym (one .before .before .before .identification-at .ensures) ∙ one .before .identification .given .1 in
     let of-three = sym (c .before .before .before .grid-at .ensures) ∙ c .before .grid .given .1 in
-    (start .pre, identified-gregorian file (start .args .located .starts .one .0) of-one, grid-taken file (start .args .located .starts .three .0) of-three .1)
+    (start .pre, identified-gregorian file (start .args .located .starts .one .0) of-one, grid-few file (start .args .located .starts .three .0) of-three)
 
 returns-3 : tie.Need-returns-3
 returns-3 c =

@@ -8,8 +8,8 @@ use borrow.Author.Needs.{needs}
 use Rattle.question_decode.proofs.decode.Statement.{statement}
 use Rattle.question_decode.proofs.decode.Tie as tie
 
-judge-requires : tie.Need-judge-requires
-judge-requires c κs = search needs
+judge-values-requires : tie.Need-judge-values-requires
+judge-values-requires c κs = search needs
 
 enum-known-description : tie.Need-enum-known-description
 enum-known-description c = search needs
@@ -19,7 +19,7 @@ decode-judged-requires c κs =
     let told = c .before .before .before in
     let judge = told .before .before in
     let a = judge .before .before .before .before .args in
-    let said = judged-values (a .file .now) (a .k) (a .start) (length (a .values .now)) (length (a .presence .now)) (sym (judge .judge .ensures) ∙ told .description .given .1) in
+    let said = judged-values (a .file .now) (a .k) (a .start) (length (a .values .now)) (length (a .presence .now)) (sym (judge .judge-values .ensures) ∙ told .description .given .1) in
     (((a .k, said .0), said .2), said .1)
 
 enum-known-refusal : tie.Need-enum-known-refusal
@@ -37,7 +37,7 @@ returns c =
     let told = call .before .before .before .before in
     let judge = told .before .before in
     let a = judge .before .before .before .before .args in
-    let outcome = ap (outcomeBy (a .file .now)) (sym (told .description .given .1) ∙ judge .judge .ensures) in (
+    let outcome = ap (outcomeBy (a .file .now)) (sym (told .description .given .1) ∙ judge .judge-values .ensures) in (
       ap Decoded.Points (call .decode-judged .ensures .0) ∙ ap answerOf outcome,
       (call .decode-judged .ensures .1 .0 ∙ ap (valuesAfter (a .start) (a .values .now)) outcome, call .decode-judged .ensures .1 .1 ∙ ap (presenceAfter (a .start) (a .presence .now)) outcome),
     )
@@ -51,7 +51,7 @@ refuses : (c : tie.After-known-told2) →
 refuses c =
     let judge = c .before .before .before in
     let a = judge .before .before .before .before .args in
-    let outcome = ap (outcomeBy (a .file .now)) (sym (c .before .refusal .given .1) ∙ judge .judge .ensures) in
+    let outcome = ap (outcomeBy (a .file .now)) (sym (c .before .refusal .given .1) ∙ judge .judge-values .ensures) in
     (ap answerOf outcome, (ap (valuesAfter (a .start) (a .values .now)) outcome, ap (presenceAfter (a .start) (a .presence .now)) outcome))
 
 returns-2 : tie.Need-returns-2
@@ -61,7 +61,7 @@ pub decode-spec : {M : Type 1} → statement M
 decode-spec =
     tie.close
     (tie.spec
-    judge-requires
+    judge-values-requires
     enum-known-description
     decode-judged-requires
     enum-known-refusal

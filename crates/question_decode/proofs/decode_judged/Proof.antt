@@ -13,15 +13,15 @@ use Rattle.question_decode.proofs.decode_judged.Statement.{statement}
 use Rattle.question_decode.proofs.decode_judged.Tie as tie
 
 points-of-requires : tie.Need-points-of-requires
-points-of-requires c κs = let s = c .before .before .before .before in few-points (s .args .file .now) (s .args .description) (s .pre .0 .0)
+points-of-requires c κs = let s = c .before .before .before in few-points (s .args .file .now) (s .args .description) (s .pre .0 .0)
 
 -- The stretch ends within both runs, and has as many elements as the field has points.
 fits : (c : tie.After-points-of) →
-    let a = c .before .before .before .before .before .args in
+    let a = c .before .before .before .before .args in
     let end = a .start + c .points-of .result in
     (end ≤ length (a .values .now)) × (end ≤ length (a .presence .now)) × (end - a .start ≡ pointsOf (a .description .grid))
 fits c =
-    let s = c .before .before .before .before .before in
+    let s = c .before .before .before .before in
     let a = s .args in
     omega (arith, room-fits (a .start) (pointsOf (a .description .grid)) (length (a .values .now)) (length (a .presence .now)) (s .pre .1), c .points-of .ensures)
 
@@ -55,7 +55,7 @@ part-fill-end-2 c = fits (c .before) .1
 fill-requires : tie.Need-fill-requires
 fill-requires c κs =
     let points = c .before .before in
-    let s = points .before .before .before .before .before in
+    let s = points .before .before .before .before in
     let end = s .args .start + points .points-of .result in
     let f = fits points in
     (s .pre .0, (mid-len (s .args .start) end (s .args .values .now) (f .0) ∙ f .2, mid-len (s .args .start) end (s .args .presence .now) (f .1) ∙ f .2))
@@ -70,7 +70,7 @@ returns : tie.Need-returns
 returns c =
     let call = c .before .before .before .before in
     let points = call .before .before .before in
-    let a = points .before .before .before .before .before .args in
+    let a = points .before .before .before .before .args in
     let end = a .start + points .points-of .result in
     let f = fits points in (
       points .points-of .ensures,

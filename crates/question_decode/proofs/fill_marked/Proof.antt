@@ -16,19 +16,19 @@ use Rattle.question_decode.proofs.fill_marked.Tie as tie
 
 -- The function's entry, from behind the bitmap.
 abbrev Begun : tie.After-bitmap-in → tie.Start
-Begun c = c .before .before .before .before .before .before .before .before .before .before
+Begun c = c .before .before .before .before .before .before .before .before .before
 
 packing-of-requires : tie.Need-packing-of-requires
-packing-of-requires c κs = let s = c .before .before .before .before .before .before in scaled (s .args .file .now) (s .args .description) (s .pre .0 .0 .0)
+packing-of-requires c κs = let s = c .before .before .before .before .before in scaled (s .args .file .now) (s .args .description) (s .pre .0 .0 .0)
 
 octets-in-requires : tie.Need-octets-in-requires
-octets-in-requires c κs = let s = c .before .before .before .before .before .before .before in seven-lies (s .args .file .now) (s .args .description) (s .pre .0 .0 .0)
+octets-in-requires c κs = let s = c .before .before .before .before .before .before in seven-lies (s .args .file .now) (s .args .description) (s .pre .0 .0 .0)
 
 points-of-requires : tie.Need-points-of-requires
-points-of-requires c κs = let s = c .before .before .before .before .before .before .before .before in few-points (s .args .file .now) (s .args .description) (s .pre .0 .0 .0)
+points-of-requires c κs = let s = c .before .before .before .before .before .before .before in few-points (s .args .file .now) (s .args .description) (s .pre .0 .0 .0)
 
 bitmap-in-requires : tie.Need-bitmap-in-requires
-bitmap-in-requires c κs = let s = c .before .before .before .before .before .before .before .before .before in rw (c .points-of .ensures) (s .pre .0 .1 .lies, s .pre .0 .1 .fits)
+bitmap-in-requires c κs = let s = c .before .before .before .before .before .before .before .before in rw (c .points-of .ensures) (s .pre .0 .1 .lies, s .pre .0 .1 .fits)
 
 -- The bitmap that is handed on.
 marks : (c : tie.After-bitmap-in) → let a = Begun c .args in c .bitmap-in .result .now ≡ bitmapIn (a .file .now) (a .six .0) (pointsOf (a .description .grid))

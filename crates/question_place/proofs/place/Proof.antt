@@ -1,54 +1,56 @@
--- `question_place::place` meets its contract: a point that the field has is asked of the grid of its description.
+-- `question_place::place` meets its contract: a point that the field has is asked of its grid.
 use mathlib.Core.Path.{_≡_, sym, ap, _∙_}
 use native.Mathlib.Omega.{arith}
-use Rattle.question.specs.declared.Described.the-variants as Described
-use Rattle.question.specs.declared.Asks.the-variants as Asks
-use Rattle.question.specs.Judge.{judge}
-use Rattle.question.proofs.Laws.{described-grid, judged-point}
-use Rattle.question_place.specs.declared.Placed.the-variants as Placed
-use Rattle.question_place.specs.Place.{placedBy}
 use borrow.Author.Needs.{needs}
+use Rattle.section_3_geometry.proofs.Laws.{taken-measured}
+use Rattle.question_place.specs.Place.{placeLength, onDegrees, placedBy}
+use Rattle.question_place.specs.declared.OnDegrees.the-variants as OnDegrees
+use Rattle.question_place.specs.declared.Placed.the-variants as Placed
+use Rattle.question_place.proofs.Laws.{InDegrees, judged-degrees, degrees-passes}
 use Rattle.question_place.proofs.place.Statement.{statement}
 use Rattle.question_place.proofs.place.Tie as tie
 
-judge-requires : tie.Need-judge-requires
-judge-requires c κs = search needs
+on-degrees-requires : tie.Need-on-degrees-requires
+on-degrees-requires c κs = search needs
 
-enum-known-description : tie.Need-enum-known-description
-enum-known-description c = search needs
+enum-known-grid : tie.Need-enum-known-grid
+enum-known-grid c = search needs
 
--- The question is judged, and this is the field's description.
-said : (c : tie.After-known-told) → let a = c .before .before .before .before .before .args in judge (a .file .now) (a .k) (Asks.Point (a .n)) ≡ Described.As (c .before .description .given .0 .0)
-said c = sym (c .before .before .before .judge .ensures) ∙ c .before .description .given .1
+-- The question is judged, and this is the field's grid.
+said : (c : tie.After-known-told) → let a = c .before .before .before .before .before .args in onDegrees (a .file .now) (a .k) (a .n) placeLength ≡ OnDegrees.Grid (c .before .grid .given .0 .0)
+said c = sym (c .before .before .before .on-degrees .ensures) ∙ c .before .grid .given .1
+
+known : (c : tie.After-known-told) → let a = c .before .before .before .before .before .args in InDegrees (a .file .now) (a .k) (a .n) placeLength (c .before .grid .given .0 .0)
+known c = let a = c .before .before .before .before .before .args in judged-degrees (a .file .now) (a .k) (a .n) placeLength (said c)
 
 cast-position-of : tie.Need-cast-position-of
 cast-position-of c =
-    let a = c .before .before .before .before .before .before .args in
-    let point = judged-point (a .file .now) (a .k) (a .n) (said (c .before)) in
-    omega (arith, point .1, described-grid (a .file .now) (a .k) (point .0) .1)
+    let a = c .before .before .before .before .before .args in
+    omega (arith, known c .below, degrees-passes (a .file .now) (a .k) (a .n) placeLength (known c) .2)
 
 position-of-requires : tie.Need-position-of-requires
 position-of-requires c κs =
-    let a = c .before .before .before .before .before .before .args in
-    described-grid (a .file .now) (a .k) (judged-point (a .file .now) (a .k) (a .n) (said (c .before)) .0) .0
+    let a = c .before .before .before .before .before .args in
+    let passed = degrees-passes (a .file .now) (a .k) (a .n) placeLength (known c) in
+    taken-measured _ (passed .0) (passed .1)
 
-enum-known-refusal : tie.Need-enum-known-refusal
-enum-known-refusal c = search needs
+enum-known-refused : tie.Need-enum-known-refused
+enum-known-refused c = search needs
 
 returns : tie.Need-returns
-returns c = ap Placed.At (c .position-of .ensures) ∙ sym (ap (placedBy _) (said (c .before .before)))
+returns c = ap Placed.At (c .position-of .ensures) ∙ sym (ap (placedBy _) (said (c .before)))
 
 returns-2 : tie.Need-returns-2
-returns-2 c = sym (ap (placedBy _) (sym (c .before .before .before .judge .ensures) ∙ c .before .refusal .given .1))
+returns-2 c = sym (ap (placedBy _) (sym (c .before .before .before .on-degrees .ensures) ∙ c .before .refused .given .1))
 
 pub place-spec : {M : Type 1} → statement M
 place-spec =
     tie.close
     (tie.spec
-    judge-requires
-    enum-known-description
+    on-degrees-requires
+    enum-known-grid
     cast-position-of
     position-of-requires
-    enum-known-refusal
+    enum-known-refused
     returns
     returns-2)

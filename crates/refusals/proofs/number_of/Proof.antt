@@ -60,6 +60,9 @@ enum-told-18 c = search needs
 enum-told-19 : tie.Need-enum-told-19
 enum-told-19 c = search needs
 
+enum-told-20 : tie.Need-enum-told-20
+enum-told-20 c = search needs
+
 returns : tie.Need-returns
 returns c = rw (c .enum-told .given .1)
 
@@ -117,6 +120,9 @@ returns-18 c = rw (c .enum-told18 .given .1)
 returns-19 : tie.Need-returns-19
 returns-19 c = rw (c .enum-told19 .given .1)
 
+returns-20 : tie.Need-returns-20
+returns-20 c = rw (c .enum-told20 .given .1)
+
 pub number-of-spec : {M : Type 1} → statement M
 number-of-spec =
     tie.close
@@ -140,6 +146,7 @@ number-of-spec =
     enum-told-17
     enum-told-18
     enum-told-19
+    enum-told-20
     returns
     returns-2
     returns-3
@@ -158,4 +165,5 @@ number-of-spec =
     returns-16
     returns-17
     returns-18
-    returns-19)
+    returns-19
+    returns-20)

@@ -42,7 +42,7 @@ returns-2 c =
     let k = tested .before in
     let g = k .before .before .before .args .grid in
     c .is-spanned2 .ensures
-    ∙ ap (isSpanned (g .nj - 1) (g .dj)) (c .before .span-south .ensures)
+    ∙ ap (isSpanned (g .frame .nj - 1) (g .dj)) (c .before .span-south .ensures)
     ∙ sym (south-decides g (k .before .span-east .ensures) (sym (k .is-spanned .ensures) ∙ not-false _ (tested .if1 .left)))
 
 pub is-stepped-spec : {M : Type 1} → statement M

@@ -20,7 +20,7 @@ is-cornered-requires : tie.Need-is-cornered-requires
 is-cornered-requires c κs = search needs
 
 -- Behind its test the points are counted, and then the grid has its corners.
-counted-is : (c : tie.Else1) → isCounted (c .before .before .args .grid) (c .before .before .args .points) ≡ true
+counted-is : (c : tie.Else1) → isCounted (c .before .before .args .grid .frame) (c .before .before .args .points) ≡ true
 counted-is c = sym (c .before .is-counted .ensures) ∙ not-false _ (c .if1 .left)
 
 cornered-is : (c : tie.Else2) → isCornered (c .before .before .before .before .args .grid) ≡ true
@@ -34,7 +34,7 @@ returns-2 c =
 is-stepped-requires : tie.Need-is-stepped-requires
 is-stepped-requires c κs =
     let args = c .before .before .before .before .args in
-    let count = counted (args .grid) (args .points) (counted-is (c .before .before)) in
+    let count = counted (args .grid .frame) (args .points) (counted-is (c .before .before)) in
     (count .columns1, count .columns65535, count .rows1, count .rows65535, cornered-is c)
 
 returns-3 : tie.Need-returns-3

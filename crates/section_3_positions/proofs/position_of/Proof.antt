@@ -34,31 +34,31 @@ away-requires-2 c κs =
     (start .pre .rows, omega (arith, c .before .span-south .ensures, span-south-bound (start .args .grid) (cornered (start .args .grid) (start .pre .corners))))
 
 -- The distances to the east and to the south, and that they leave room in 64 bits.
-east-is : (c : tie.After-away) → let args = c .before .before .before .before .args in c .away .result ≡ awayOf (args .grid .ni) (spanEast (args .grid)) (args .n % args .grid .ni)
+east-is : (c : tie.After-away) → let args = c .before .before .before .before .args in c .away .result ≡ awayOf (args .grid .frame .ni) (spanEast (args .grid)) (args .n % args .grid .frame .ni)
 east-is c =
     let start = c .before .before .before .before in
     let args = start .args in
-    away-once (start .pre .columns) (c .away .ensures) away-of ∙ ap (λ (span : ℕ). awayOf (args .grid .ni) span (args .n % args .grid .ni)) (c .before .before .span-east .ensures)
+    away-once (start .pre .columns) (c .away .ensures) away-of ∙ ap (λ (span : ℕ). awayOf (args .grid .frame .ni) span (args .n % args .grid .frame .ni)) (c .before .before .span-east .ensures)
 
 east-fits : (c : tie.After-away) → c .away .result ≤ 2 ^ 63
 east-fits c =
     let start = c .before .before .before .before in
     let span = c .before .before .span-east .result in
     let short : span < 2 ^ 29 = omega (arith, c .before .before .span-east .ensures, span-east-bound (start .args .grid) (cornered (start .args .grid) (start .pre .corners))) in
-    away-small (start .pre .columns) (omega arith) short (omega (arith, mod-le (start .args .n) (start .args .grid .ni))) (c .away .ensures)
+    away-small (start .pre .columns) (omega arith) short (omega (arith, mod-le (start .args .n) (start .args .grid .frame .ni))) (c .away .ensures)
 
-south-is : (c : tie.After-away2) → let args = c .before .before .before .before .before .before .before .args in c .away2 .result ≡ awayOf (args .grid .nj) (spanSouth (args .grid)) (args .n / args .grid .ni)
+south-is : (c : tie.After-away2) → let args = c .before .before .before .before .before .before .before .args in c .away2 .result ≡ awayOf (args .grid .frame .nj) (spanSouth (args .grid)) (args .n / args .grid .frame .ni)
 south-is c =
     let start = c .before .before .before .before .before .before .before in
     let args = start .args in
-    away-once (start .pre .rows) (c .away2 .ensures) away-of ∙ ap (λ (span : ℕ). awayOf (args .grid .nj) span (args .n / args .grid .ni)) (c .before .before .span-south .ensures)
+    away-once (start .pre .rows) (c .away2 .ensures) away-of ∙ ap (λ (span : ℕ). awayOf (args .grid .frame .nj) span (args .n / args .grid .frame .ni)) (c .before .before .span-south .ensures)
 
 south-fits : (c : tie.After-away2) → c .away2 .result ≤ 2 ^ 63
 south-fits c =
     let start = c .before .before .before .before .before .before .before in
     let span = c .before .before .span-south .result in
     let short : span < 2 ^ 29 = omega (arith, c .before .before .span-south .ensures, span-south-bound (start .args .grid) (cornered (start .args .grid) (start .pre .corners))) in
-    away-small (start .pre .rows) (omega arith) short (omega (arith, div-le-self (start .args .n) (start .args .grid .ni))) (c .away2 .ensures)
+    away-small (start .pre .rows) (omega arith) short (omega (arith, div-le-self (start .args .n) (start .args .grid .frame .ni))) (c .away2 .ensures)
 
 cast-longitude : tie.Need-cast-longitude
 cast-longitude c = search needs

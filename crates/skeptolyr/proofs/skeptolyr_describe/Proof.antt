@@ -4,18 +4,17 @@ use native.Mathlib.Nat.{zero-add}
 use native.Mathlib.Omega.{arith}
 use lib.ListN.{length}
 use Rattle.question.specs.declared.Described.the-variants as Described
-use Rattle.question.specs.declared.Asks.the-variants as Asks
-use Rattle.question.specs.Judge.{judge}
+use Rattle.question.specs.Judge.{Asks, judge}
 use Rattle.question.proofs.Laws.{judge-placed, judged-numbers}
 use Rattle.question_numbers.specs.Numbers.{numbersOf}
 use Rattle.question_numbers.proofs.Held.{described-held}
-use Rattle.skeptolyr.specs.Codes.{numbersCode, numbersLeft}
+use Rattle.skeptolyr.specs.Codes.{numbersCode, numbersLeft, describedAs}
 use borrow.Author.Needs.{needs}
 use Rattle.skeptolyr.proofs.skeptolyr_describe.Statement.{statement}
 use Rattle.skeptolyr.proofs.skeptolyr_describe.Tie as tie
 
-judge-requires : tie.Need-judge-requires
-judge-requires c κs = search needs
+judge-numbers-requires : tie.Need-judge-numbers-requires
+judge-numbers-requires c κs = search needs
 
 enum-known-description : tie.Need-enum-known-description
 enum-known-description c = search needs
@@ -24,7 +23,7 @@ enum-known-description c = search needs
 said : (c : tie.After-known-told) →
     let a = c .before .before .before .before .before .args in
     judge (a .file .now) (a .k) (Asks.Numbers (length (a .numbers .now))) ≡ Described.As (c .before .description .given .0 .0)
-said c = sym (c .before .before .before .judge .ensures) ∙ c .before .description .given .1
+said c = sym (c .before .before .before .judge-numbers .ensures) ∙ c .before .description .given .1
 
 put-description-requires : tie.Need-put-description-requires
 put-description-requires c κs =
@@ -38,7 +37,7 @@ enum-known-refusal c = search needs
 code-of-requires : tie.Need-code-of-requires
 code-of-requires c κs =
     let a = c .before .before .before .before .before .args in
-    omega (arith, judge-placed (a .file .now) (a .k) (Asks.Numbers (length (a .numbers .now))) (sym (c .before .before .before .judge .ensures) ∙ c .before .refusal .given .1))
+    omega (arith, judge-placed (a .file .now) (a .k) (Asks.Numbers (length (a .numbers .now))) (sym (c .before .before .before .judge-numbers .ensures) ∙ c .before .refusal .given .1))
 
 same-length : tie.Need-same-length
 same-length c = search needs
@@ -48,19 +47,19 @@ returns c =
     let a = c .before .before .before .before .before .before .before .before .args in
     let put = c .before .put-description .ensures in
     let is = sym (said (c .before .before .before)) in
-    (put .1 ∙ zero-add (length (numbersOf (c .before .before .before .before .description .given .0 .0))) ∙ ap (numbersCode numbersOf) is, put .0 ∙ ap (numbersLeft numbersOf (a .numbers .now)) is)
+    (put .1 ∙ zero-add (length (numbersOf (c .before .before .before .before .description .given .0 .0))) ∙ ap (λ x. numbersCode (describedAs x)) is, put .0 ∙ ap (λ x. numbersLeft (a .numbers .now) (describedAs x)) is)
 
 returns-2 : tie.Need-returns-2
 returns-2 c =
     let a = c .before .before .before .before .before .before .args in
-    let is = sym (sym (c .before .before .before .before .judge .ensures) ∙ c .before .before .refusal .given .1) in
-    (c .code-of .ensures ∙ ap (numbersCode numbersOf) is, ap (numbersLeft numbersOf (a .numbers .now)) is)
+    let is = sym (sym (c .before .before .before .before .judge-numbers .ensures) ∙ c .before .before .refusal .given .1) in
+    (c .code-of .ensures ∙ ap (λ x. numbersCode (describedAs x)) is, ap (λ x. numbersLeft (a .numbers .now) (describedAs x)) is)
 
 pub skeptolyr-describe-spec : {M : Type 1} → statement M
 skeptolyr-describe-spec =
     tie.close
     (tie.spec
-    judge-requires
+    judge-numbers-requires
     enum-known-description
     put-description-requires
     enum-known-refusal
