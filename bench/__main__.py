@@ -2,6 +2,7 @@
 
 With an ARCHIVE, its functions are measured, and nothing is proved: for code whose proof is still under way.
 """
+import functools
 import os
 import statistics
 import subprocess
@@ -16,7 +17,9 @@ from tools.archive import FLAGS
 COMPILER = ['gcc', *FLAGS, '-O3']
 # The decoders of others: header, package, flags.
 PEERS = {'ecCodes': ('eccodes.h', 'libeccodes-dev', ['-DECCODES', '-leccodes']), 'g2c': ('grib2.h', 'libg2c-dev', ['-DG2C', '-lg2c'])}
-FILES = {'LFM-like': shapes.lfm, 'MSM-like': shapes.msm, 'ocean-like': shapes.ocean, '300 small fields': shapes.small_fields}
+# The meso-scale model's file is on a grid in degrees, and once more on the Lambert grid that the Agency sends it on.
+ON_SHEET = functools.partial(shapes.msm, grid=shapes.cone)
+FILES = {'LFM-like': shapes.lfm, 'MSM-like': shapes.msm, 'MSM-like, Lambert': ON_SHEET, 'ocean-like': shapes.ocean, '300 small fields': shapes.small_fields}
 GROWING = ('LFM-like', 'MSM-like')
 TIMES = (1, 2, 4, 8)
 PASSES = 5

@@ -24,7 +24,7 @@ int main(int argc, char **argv)
 {
     size_t room = (size_t)1 << 28, length, k = argc > 1 ? strtoull(argv[1], NULL, 10) : 0;
     uint8_t *file = malloc(room);
-    int64_t numbers[SKEPTOLYR_DESCRIPTION];
+    int64_t numbers[SKEPTOLYR_DESCRIPTION_LAMBERT];
     uint64_t answer = 0;
     static double took[CALLS];
 
@@ -34,7 +34,7 @@ int main(int argc, char **argv)
     }
     for (int i = 0; i < CALLS; i++) {
         double start = now();
-        answer = skeptolyr_describe(file, length, k, numbers, SKEPTOLYR_DESCRIPTION);
+        answer = skeptolyr_describe(file, length, k, numbers, SKEPTOLYR_DESCRIPTION_LAMBERT);
         took[i] = now() - start;
     }
     qsort(took, CALLS, sizeof *took, by_size);

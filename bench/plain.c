@@ -173,25 +173,61 @@ static int spans(int64_t span, int64_t steps, int64_t step)
     return -steps <= over && over <= steps;
 }
 
+static int is_latitude(const uint8_t *three, size_t octet)
+{
+    int64_t angle = signed_number(three, octet, 4);
+    return -90000000 <= angle && angle <= 90000000;
+}
+
+static int is_longitude(const uint8_t *three, size_t octet)
+{
+    return number(three, octet, 4) <= 359999999;
+}
+
+static int is_length(const uint8_t *three, size_t octet)
+{
+    uint32_t length = number(three, octet, 4);
+    return length >= 1 && length <= MOST;
+}
+
 static int judge_places(const uint8_t *three, uint32_t ni, uint32_t nj)
 {
+    if (!is_latitude(three, 47) || !is_longitude(three, 51) || !is_latitude(three, 56) || !is_longitude(three, 60))
+        return 0;
     int64_t north = signed_number(three, 47, 4), south = signed_number(three, 56, 4);
     int64_t west = number(three, 51, 4), east = number(three, 60, 4);
-    if (north > 90000000 || south < -90000000 || north < south || west > 359999999 || east > 359999999)
+    return north >= south && spans(east - west + (east < west ? 360000000 : 0), ni - 1, number(three, 64, 4))
+        && spans(north - south, nj - 1, number(three, 68, 4));
+}
+
+/* What template 3.0 has of its own. */
+static int judge_degrees(const uint8_t *three, uint32_t ni, uint32_t nj)
+{
+    return number(three, 39, 4) == 0 && number(three, 43, 4) == ALL_ONES && three[54] == 0x30 && three[71] == 0 && judge_places(three, ni, nj);
+}
+
+/* What template 3.30 has of its own. */
+static int judge_lambert(const uint8_t *three)
+{
+    if (three[46] != 0x08 || three[63] || three[64] || !is_length(three, 56) || !is_length(three, 60))
         return 0;
-    return spans(east - west + (east < west ? 360000000 : 0), ni - 1, number(three, 64, 4)) && spans(north - south, nj - 1, number(three, 68, 4));
+    return is_latitude(three, 39) && is_longitude(three, 43) && is_latitude(three, 48) && is_longitude(three, 52) && is_latitude(three, 66)
+        && is_latitude(three, 70);
 }
 
 static int judge_3(const uint8_t *three)
 {
-    if (length_of(three) != 72 || three[5] || three[10] || three[11] || number(three, 13, 2))
+    uint32_t length = length_of(three);
+    if (!(length == 72 && number(three, 13, 2) == 0) && !(length == 81 && number(three, 13, 2) == 30))
+        return 0;
+    if (three[5] || three[10] || three[11])
         return 0;
     uint32_t radius = number(three, 17, 4), ni = number(three, 31, 4), nj = number(three, 35, 4);
     if (three[14] != 6 && !(three[14] == 1 && three[15] == 0 && radius != 0 && radius != ALL_ONES))
         return 0;
     if (ni < 1 || ni > 65535 || nj < 1 || nj > 65535 || ni * nj > 16777216 || number(three, 7, 4) != ni * nj)
         return 0;
-    return number(three, 39, 4) == 0 && number(three, 43, 4) == ALL_ONES && three[54] == 0x30 && three[71] == 0 && judge_places(three, ni, nj);
+    return length == 72 ? judge_degrees(three, ni, nj) : judge_lambert(three);
 }
 
 static int judge_interval(const uint8_t *four, int64_t start, const int64_t *unit)

@@ -1,4 +1,4 @@
-/* Prints the most stack that any of the four functions takes for the first and the last field of the file on standard input, and for one behind them, in
+/* Prints the most stack that any of the five functions takes for the first and the last field of the file on standard input, and for one behind them, in
  * octets, with its return address and the arguments that are handed on the stack. The call runs on a stack of its own that was painted
  * before, and the deepest octet that lost its paint tells. */
 #include "skeptolyr.h"
@@ -12,7 +12,7 @@ enum { STACK = 1 << 20, MOST_POINTS = 16777216 };
 
 static uint8_t stack[STACK], *file, *presence, *caller;
 static double *values;
-static int64_t numbers[SKEPTOLYR_DESCRIPTION];
+static int64_t numbers[SKEPTOLYR_DESCRIPTION_LAMBERT];
 static size_t length, asked;
 static volatile uint64_t answer;
 static ucontext_t outside, inside;
@@ -32,13 +32,19 @@ static void decode(void)
 static void describe(void)
 {
     caller = __builtin_frame_address(0);
-    answer = skeptolyr_describe(file, length, asked, numbers, SKEPTOLYR_DESCRIPTION);
+    answer = skeptolyr_describe(file, length, asked, numbers, SKEPTOLYR_DESCRIPTION_LAMBERT);
 }
 
 static void place(void)
 {
     caller = __builtin_frame_address(0);
     answer = skeptolyr_place(file, length, asked, 0, numbers, SKEPTOLYR_POSITION);
+}
+
+static void sheet(void)
+{
+    caller = __builtin_frame_address(0);
+    answer = skeptolyr_sheet(file, length, asked, 0, numbers, SKEPTOLYR_SHEET_PLACE);
 }
 
 /* How deep a call reaches below its caller's frame. What is reserved and never changed does not show, so a few octets may be missing. */
@@ -69,8 +75,8 @@ int main(void)
         return 2;
     length = fread(file, 1, room, stdin);
     size_t fields = skeptolyr_fields(skeptolyr_check(file, length)), fields_asked[] = {0, fields - 1, fields};
-    void (*const calls[])(void) = {check, decode, describe, place};
-    for (size_t i = 0; i < 12; i++) {
+    void (*const calls[])(void) = {check, decode, describe, place, sheet};
+    for (size_t i = 0; i < 15; i++) {
         for (int paint = 0; paint < 256; paint += 85) {
             asked = fields_asked[i % 3];
             size_t deep = depth(calls[i / 3], paint);

@@ -32,12 +32,16 @@ STRETCH = "an element outside the field's stretch has changed"
 ELEMENT = "an element and the independent decoder's differ"
 ANSWER = 'decode and the independent decoder differ'
 PRESENCE = 'a presence is neither 0 nor 1'
-# Behind the name of describe or of place.
+KIND = 'the questions differ about the kind of grid'
+TWICE = 'describe puts numbers twice, and differently'
+PLACE = "a refusal's place is not where it can be"
+# Behind the name of describe, of place or of sheet.
 NUMBER = ' puts another number than the independent decoder'
 NUMBERS_ANSWER = ' and the independent decoder differ'
 COUNT = ' puts another number of numbers than it has'
 NOT_OWN = ' changes a number that is not its own'
 NOT_AS_DECODE = ' does not refuse as decode does'
+NOT_REFUSED = ' refuses a field that decode does not refuse'
 MESSAGES = [
     None,
     'check and the independent decoder differ',
@@ -57,7 +61,7 @@ MESSAGES = [
     'decode does not refuse as check does',
     'a refusal has no number of its function',
     ANSWER,
-    "a refusal's place is not where it can be",
+    PLACE,
     OVERFLOW,
     STRETCH,
     ELEMENT,
@@ -68,7 +72,7 @@ MESSAGES = [
     'a double is not finite',
     'describe' + NUMBER,
     'describe' + NUMBER,
-    'describe puts numbers twice, and differently',
+    TWICE,
     'describe' + NUMBER,
     'describe' + NUMBER,
     'describe' + NUMBER,
@@ -91,6 +95,37 @@ MESSAGES = [
     'place' + NUMBER,
     'place' + NUMBER,
     'place' + NUMBER,
+    KIND,
+    TWICE,
+    KIND,
+    'describe' + NUMBERS_ANSWER,
+    'describe' + NUMBER,
+    'describe' + NUMBER,
+    'describe' + NUMBER,
+    'describe' + NUMBER,
+    'describe' + NUMBER,
+    KIND,
+    'place' + NOT_REFUSED,
+    'place' + NUMBERS_ANSWER,
+    'place' + NUMBERS_ANSWER,
+    PLACE,
+    'sheet' + NUMBER,
+    'sheet' + NUMBER,
+    'sheet' + NUMBER,
+    'sheet' + NUMBER,
+    'sheet' + NUMBER,
+    'sheet' + NUMBER,
+    'sheet' + NUMBER,
+    'sheet' + NUMBERS_ANSWER,
+    KIND,
+    'sheet' + NUMBERS_ANSWER,
+    'sheet' + NUMBERS_ANSWER,
+    OVERFLOW,
+    'sheet' + NOT_OWN,
+    'sheet' + NOT_AS_DECODE,
+    'sheet' + NUMBERS_ANSWER,
+    'sheet' + COUNT,
+    'sheet' + NOT_OWN,
 ]
 
 

@@ -2,8 +2,8 @@
  *
  * libFuzzer changes octets anywhere, and one octet more inside a section leaves a file that no longer tiles. So most mutations here change the
  * body of one section, and put its length and its message's length right; most of these then put right what of its field follows from the rest,
- * so that the field may still be decoded. Some close a file that does not tile. A few repeat sections or change the question; and a few are
- * libFuzzer's own, which damage anything. */
+ * so that the field may still be decoded. Some close a file that does not tile. A few repeat sections, make a grid one of the other kind or change the
+ * question; and a few are libFuzzer's own, which damage anything. */
 #include "question.h"
 
 #include <stddef.h>
@@ -15,6 +15,9 @@ size_t LLVMFuzzerMutate(uint8_t *data, size_t size, size_t max_size);
 size_t LLVMFuzzerCustomMutator(uint8_t *data, size_t size, size_t max_size, unsigned int seed);
 
 enum { MOST_SECTIONS = 128, SECTION_HEAD = 5, FIRST_SECTION = 16, CLOSING = 4, MOST_OCTETS = 65536, MOST_GROUPS = 1024 };
+
+/* The length of section 3, and where the first point stands in it: on a grid in degrees, and on a Lambert grid. */
+enum { DEGREES_LENGTH = 72, DEGREES_FIRST = 46, LAMBERT_LENGTH = 81, LAMBERT_FIRST = 38, OCTETS_OF_POINT = 8 };
 
 /* A section that was found: where its message starts, and where it starts and ends. */
 struct section {
@@ -124,13 +127,18 @@ static uint64_t get_bits(const uint8_t *octets, size_t length, uint64_t place, i
     return found;
 }
 
+/* The section 3 in force for a section. */
+static struct section grid_of(const uint8_t *data, const struct sections *all, size_t chosen)
+{
+    while (chosen > 0 && number_of(data, all->found[chosen]) != 3)
+        chosen--;
+    return all->found[chosen];
+}
+
 /* N, from the grid in force and from section 6, where that is not 254. */
 static void put_count(uint8_t *data, const struct sections *all, size_t seven)
 {
-    size_t grid = seven;
-    while (grid > 0 && number_of(data, all->found[grid]) != 3)
-        grid--;
-    struct section three = all->found[grid], five = all->found[seven - 2], six = all->found[seven - 1];
+    struct section three = grid_of(data, all, seven), five = all->found[seven - 2], six = all->found[seven - 1];
     const uint8_t *bitmap = data + six.start + 6;
     size_t length = six.end - six.start;
     if (three.end - three.start < 10 || length < 6 || bitmap[-1] == 254)
@@ -187,6 +195,53 @@ static size_t fit(uint8_t *data, size_t size, size_t max_size, const struct sect
     return size;
 }
 
+/* ---- the kind of a grid */
+
+/* Section 3 from its template on, as a grid in degrees of any size may have it: all of its points lie at the first, with steps of 0. */
+static void put_degrees(uint8_t *three, const uint8_t *first)
+{
+    put_number(three + 12, 2, 0);
+    put_number(three + 38, 4, 0);
+    put_number(three + 42, 4, UINT32_MAX);
+    memcpy(three + DEGREES_FIRST, first, OCTETS_OF_POINT);
+    three[54] = 0x30;
+    memcpy(three + 55, first, OCTETS_OF_POINT);
+    put_number(three + 63, 8, 0);
+    three[71] = 0;
+}
+
+/* The same of a Lambert grid, on the Agency's cone. */
+static void put_lambert(uint8_t *three, const uint8_t *first)
+{
+    put_number(three + 12, 2, 30);
+    memcpy(three + LAMBERT_FIRST, first, OCTETS_OF_POINT);
+    three[46] = 0x08;
+    put_number(three + 47, 4, 30000000);
+    put_number(three + 51, 4, 140000000);
+    put_number(three + 55, 4, 5000000);
+    put_number(three + 59, 4, 5000000);
+    put_number(three + 63, 2, 0);
+    put_number(three + 65, 4, 60000000);
+    put_number(three + 69, 4, 30000000);
+    put_number(three + 73, 8, UINT64_MAX);
+}
+
+/* Makes the grid in force for a section one of the other kind. The earth, Ni, Nj and the first point stay. */
+static size_t change_kind(uint8_t *data, size_t size, size_t max_size, struct section s)
+{
+    uint8_t first[OCTETS_OF_POINT];
+    size_t length = s.end - s.start;
+    if ((length != DEGREES_LENGTH && length != LAMBERT_LENGTH) || LAMBERT_LENGTH - DEGREES_LENGTH > max_size - size)
+        return LLVMFuzzerMutate(data, size, max_size);
+    memcpy(first, data + s.start + (length == DEGREES_LENGTH ? DEGREES_FIRST : LAMBERT_FIRST), OCTETS_OF_POINT);
+    size = resize(data, size, s, (length == DEGREES_LENGTH ? LAMBERT_LENGTH : DEGREES_LENGTH) - SECTION_HEAD);
+    if (length == DEGREES_LENGTH)
+        put_lambert(data + s.start, first);
+    else
+        put_degrees(data + s.start, first);
+    return size;
+}
+
 /* ---- one mutation */
 
 static size_t change_question(uint8_t *data, size_t size)
@@ -232,6 +287,8 @@ size_t LLVMFuzzerCustomMutator(uint8_t *data, size_t size, size_t max_size, unsi
     size_t chosen = choose(data, &all, seed / 256 % all.count, (int)is_late);
     if (way == 2)
         return repeat(data, size, max_size, all.found[chosen]);
+    if (way == 3)
+        return change_kind(data, size, max_size, grid_of(data, &all, chosen));
     size = change_body(data, size, max_size, all.found[chosen]);
     find(data, size, &all);
     return is_fitted ? fit(data, size, max_size, &all, chosen) : size;

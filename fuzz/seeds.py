@@ -1,8 +1,8 @@
 """python3 -m fuzz.seeds FOLDER: writes the small files that the fuzzer starts from, each behind the octets of a question (fuzz/question.h).
 
 They are the files of the other tests: samples, the rules' examples, a file for each error that we have met, what an earlier field decides,
-refusals 15 and 16, fields in both templates under each indicator, fields of some hundred points, and a grid whose columns and rows lie halfway between two
-millionths of a degree.
+refusals 15 and 16, fields in both templates under each indicator, fields of some hundred points; and, each in several questions, a grid whose columns and
+rows lie halfway between two millionths of a degree, and Lambert grids.
 """
 import os
 import random
@@ -17,6 +17,8 @@ LONGEST_FILE = 4000
 BITMAPS = 8
 # The largest n that an octet stands for by itself.
 LARGEST_NEAR = 223
+# How many questions are put about a grid whose places matter: as many as there are pairs of a point and a length of a run for its place.
+QUESTIONS_OF_GRID = 12
 
 
 def long_fields(rng):
@@ -43,7 +45,11 @@ def files():
     rng = random.Random(SEED)
     found += [('bitmap', file, number % 3) for number, file in enumerate(decoding.bitmaps(rng)[:BITMAPS])]
     found += [('long', file, k) for file, k in long_fields(rng)]
-    return found + [('halfway', fields.blank(149, 3, last=(35999799, 135000149), di=1, dj=100), 0)]
+    found += [('halfway', fields.blank(149, 3, last=(35999799, 135000149), di=1, dj=100), 0)] * QUESTIONS_OF_GRID
+    cones = [fields.southern_cone(), fields.lambert(29, 7, dx=2147483647, dy=70000), decoding.on_cone(grib.grouped(), 3)]
+    cones += [decoding.on_cone(file) for file, _ in long_fields(rng)[-2:]]
+    found += [('cone', file, 0) for file in cones for _ in range(QUESTIONS_OF_GRID)]
+    return found + [('both kinds', fields.both_kinds(), k) for k in (0, 1) for _ in range(QUESTIONS_OF_GRID)]
 
 
 def points_of(file, k):
@@ -56,17 +62,17 @@ def points_of(file, k):
 
 
 def seeds():
-    """(name, the input's octets). Of decode one question in four fits exactly, and one lends a run that is one element short. Describe and place are lent
-    runs that are too short, that fit, and that are longer, and a third of the points is the one behind the last."""
+    """(name, the input's octets). Of decode one question in four fits exactly, and one lends a run that is one element short. Describe, place and sheet are
+    lent runs that are too short, that fit, and that are longer, and a third of the points is the one behind the last."""
     for number, (name, file, k) in enumerate(files()):
         points = points_of(file, k)
         start, spare = ((2, 3), (0, 0), (1, 1), (1, -1))[number % 4]
         values = max(0, min(LONGEST_RUN, start + points + spare))
         presence = min(LONGEST_RUN, start + points)
         n = min(LARGEST_NEAR, (1, points - 1, points)[number % 3])
-        numbers = [(0, 53, 54, 52, 60)[number % 5], n, (0, 2, 3, 1)[number % 4]]
+        numbers = [(0, 53, 54, 52, 60, 61, 59)[number % 7], n, (0, 2, 3, 1)[number % 4], (0, 3, 2, 1)[number % 4]]
         if len(file) <= LONGEST_FILE:
-            yield '%02d %s' % (number, name), bytes([k, start]) + grib.number(values, 2) + grib.number(presence, 2) + bytes(numbers) + file
+            yield '%03d %s' % (number, name), bytes([k, start]) + grib.number(values, 2) + grib.number(presence, 2) + bytes(numbers) + file
 
 
 def main():

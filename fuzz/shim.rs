@@ -48,3 +48,11 @@ pub unsafe extern "C" fn reference_place(file: *const u8, file_length: usize, k:
     let (file, position) = (slice::from_raw_parts(file, file_length), slice::from_raw_parts_mut(position, position_length));
     reference::place_into(file, k as u64, n as u64, position).unwrap_or_else(|refusal| refusal.code())
 }
+
+/// # Safety
+/// `file` points to `file_length` octets, and `place` to `place_length` elements. They do not overlap.
+#[no_mangle]
+pub unsafe extern "C" fn reference_sheet(file: *const u8, file_length: usize, k: usize, n: usize, place: *mut i64, place_length: usize) -> u64 {
+    let (file, place) = (slice::from_raw_parts(file, file_length), slice::from_raw_parts_mut(place, place_length));
+    reference::sheet_into(file, k as u64, n as u64, place).unwrap_or_else(|refusal| refusal.code())
+}

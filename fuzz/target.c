@@ -1,4 +1,4 @@
-/* The fuzz target: puts one question to each of the four functions of skeptolyr.h, and aborts where an answer or an element is not as it must be.
+/* The fuzz target: puts one question to each of the five functions of skeptolyr.h, and aborts where an answer or an element is not as it must be.
  *
  * What the header promises is judged here without believing the library, and every answer and every element is compared with those of the
  * independent decoder. The file and the runs lie in heap memory of exactly their size, so that AddressSanitizer sees a step outside. */
@@ -19,10 +19,11 @@ uint64_t reference_decode(const uint8_t *file, size_t file_length, size_t k, siz
                           size_t presence_length);
 uint64_t reference_describe(const uint8_t *file, size_t file_length, size_t k, int64_t *numbers, size_t numbers_length);
 uint64_t reference_place(const uint8_t *file, size_t file_length, size_t k, size_t n, int64_t *position, size_t position_length);
+uint64_t reference_sheet(const uint8_t *file, size_t file_length, size_t k, size_t n, int64_t *place, size_t place_length);
 
 struct question {
     const uint8_t *file;
-    size_t length, k, start, values_length, presence_length, numbers_length, n, position_length;
+    size_t length, k, start, values_length, presence_length, numbers_length, n, position_length, place_length;
 };
 
 struct runs {
@@ -36,14 +37,16 @@ struct runs {
 enum { FILLING = 0xa5, OTHER_FILLING = 0x5a };
 
 /* The refusals, by the numbers that the header gives them. */
-enum { OVER_LENGTH = 1, NO_OCTET = 2, LAST_OF_CHECK = 7, NO_FIELD = 8, LAST_OF_FIELD = 14, NO_ROOM = 15, LAST_OF_DECODE = 16, NO_POINT = 17 };
+enum {
+    OVER_LENGTH = 1, NO_OCTET = 2, LAST_OF_CHECK = 7, NO_FIELD = 8, LAST_OF_FIELD = 14, NO_ROOM = 15, LAST_OF_DECODE = 16, NO_POINT = 17, OTHER_GRID = 20
+};
 
 static void fault(const struct question *q, const char *what, uint64_t found, uint64_t wanted)
 {
     fprintf(stderr, "FAULT: %s\n  found %016" PRIx64 ", wanted %016" PRIx64 "\n", what, found, wanted);
     fprintf(stderr, "  a file of %zu octets, field %zu from element %zu on", q->length, q->k, q->start);
     fprintf(stderr, " in runs of %zu and %zu\n", q->values_length, q->presence_length);
-    fprintf(stderr, "  its description in %zu numbers, and point %zu in %zu\n", q->numbers_length, q->n, q->position_length);
+    fprintf(stderr, "  its description in %zu numbers, and point %zu in %zu and in %zu\n", q->numbers_length, q->n, q->position_length, q->place_length);
     abort();
 }
 
@@ -100,7 +103,8 @@ static void judge_refusal(const struct question *q, uint64_t answer, uint32_t la
     uint32_t number = skeptolyr_refusal_number(answer), place = skeptolyr_refusal_place(answer);
     if (number == 0 || number > last)
         fault(q, "a refusal has no number of its function", number, last);
-    if (place != 0 && (place >= q->length || number <= NO_OCTET || number == NO_FIELD || number == NO_ROOM || number == NO_POINT))
+    int is_without_place = number <= NO_OCTET || number == NO_FIELD || number == NO_ROOM || number == NO_POINT || number == OTHER_GRID;
+    if (place != 0 && (place >= q->length || is_without_place))
         fault(q, "a refusal's place is not where it can be", place, 0);
     if (number == OVER_LENGTH || (number == NO_OCTET) != (q->length == 0))
         fault(q, "a file is refused by its length, which is another", number, q->length);
@@ -231,12 +235,12 @@ static uint64_t ask_decode_thrice(const struct question *q, uint64_t checked)
 /* ---- numbers */
 
 /* A function that puts numbers at the start of a run: its name, how it and the independent decoder are asked, the length of the run, how many numbers there
- * are, and its own last refusal, beside 15. */
+ * are on a grid in degrees and on a Lambert grid, and whether it is about a point, which has refusals of its own beside 15. */
 struct numbering {
     const char *name;
     uint64_t (*ask)(const struct question *q, int64_t *run), (*ask_reference)(const struct question *q, int64_t *run);
-    size_t length, count;
-    uint32_t last;
+    size_t length, fewer, more;
+    int is_of_point;
 };
 
 static uint64_t ask_describe(const struct question *q, int64_t *run)
@@ -259,6 +263,16 @@ static uint64_t ask_reference_place(const struct question *q, int64_t *run)
     return reference_place(q->file, q->length, q->k, q->n, run, q->position_length);
 }
 
+static uint64_t ask_sheet(const struct question *q, int64_t *run)
+{
+    return skeptolyr_sheet(q->file, q->length, q->k, q->n, run, q->place_length);
+}
+
+static uint64_t ask_reference_sheet(const struct question *q, int64_t *run)
+{
+    return reference_sheet(q->file, q->length, q->k, q->n, run, q->place_length);
+}
+
 static void fault_of(const struct question *q, const struct numbering *f, const char *what, uint64_t found, uint64_t wanted)
 {
     char words[128];
@@ -266,30 +280,51 @@ static void fault_of(const struct question *q, const struct numbering *f, const 
     fault(q, words, found, wanted);
 }
 
+static int is_field_refused(uint64_t decoded)
+{
+    return skeptolyr_is_refusal(decoded) && skeptolyr_refusal_number(decoded) <= LAST_OF_FIELD;
+}
+
 /* What is refused because of the file or of the field is refused by each function alike, and before what is wrong with the rest of its question. */
 static void judge_numbering(const struct question *q, const struct numbering *f, uint64_t decoded, uint64_t answer)
 {
     uint32_t number = skeptolyr_is_refusal(answer) ? skeptolyr_refusal_number(answer) : 0;
-    int is_field_refused = skeptolyr_is_refusal(decoded) && skeptolyr_refusal_number(decoded) <= LAST_OF_FIELD;
-    if (is_field_refused && answer != decoded)
+    if (is_field_refused(decoded) && answer != decoded)
         fault_of(q, f, "does not refuse as decode does", answer, decoded);
-    if (is_field_refused)
+    if (is_field_refused(decoded))
         return;
-    if (number != 0 && number != NO_ROOM && number != f->last)
+    if (number != 0 && number != NO_ROOM && !(f->is_of_point && (number == NO_POINT || number == OTHER_GRID)))
         fault_of(q, f, "refuses a field that decode does not refuse", answer, decoded);
     if (number != 0)
-        judge_refusal(q, answer, NO_POINT);
-    if (number == NO_ROOM && f->length >= f->count)
-        fault_of(q, f, "refuses a run that has room", f->length, f->count);
-    if (number == 0 && (answer != f->count || f->length < f->count))
-        fault_of(q, f, "puts another number of numbers than it has", answer, f->count);
+        judge_refusal(q, answer, OTHER_GRID);
+    if (number == NO_ROOM && f->length >= f->more)
+        fault_of(q, f, "refuses a run that has room", f->length, f->more);
+    if (number == 0 && ((answer != f->fewer && answer != f->more) || f->length < answer))
+        fault_of(q, f, "puts another number of numbers than it has", answer, f->more);
+}
+
+/* A field has one kind of grid: either it is described by as many numbers as a Lambert grid has, and is on the sheet, or it has places in degrees. Each
+ * question is put with room enough and about point 0, which every field has. */
+static void judge_kind(const struct question *q, uint64_t decoded)
+{
+    if (is_field_refused(decoded))
+        return;
+    int64_t *numbers = lend(SKEPTOLYR_DESCRIPTION_LAMBERT * sizeof *numbers), *place = lend(SKEPTOLYR_POSITION * sizeof *place);
+    uint64_t described = skeptolyr_describe(q->file, q->length, q->k, numbers, SKEPTOLYR_DESCRIPTION_LAMBERT);
+    uint64_t in_degrees = skeptolyr_place(q->file, q->length, q->k, 0, place, SKEPTOLYR_POSITION);
+    uint64_t on_sheet = skeptolyr_sheet(q->file, q->length, q->k, 0, place, SKEPTOLYR_SHEET_PLACE);
+    int is_lambert = described == SKEPTOLYR_DESCRIPTION_LAMBERT;
+    if (skeptolyr_is_refusal(in_degrees) != is_lambert || skeptolyr_is_refusal(on_sheet) == is_lambert)
+        fault(q, "the questions differ about the kind of grid", is_lambert ? in_degrees : on_sheet, described);
+    take_back(numbers, SKEPTOLYR_DESCRIPTION_LAMBERT * sizeof *numbers);
+    take_back(place, SKEPTOLYR_POSITION * sizeof *place);
 }
 
 /* All octets behind the numbers of an answer, or all of the run behind a refusal, are the filling. */
 static void judge_run(const struct question *q, const struct numbering *f, uint64_t answer, const int64_t *run, int filling)
 {
     const uint8_t *octets = (const uint8_t *)run;
-    for (size_t i = skeptolyr_is_refusal(answer) ? 0 : f->count * sizeof *run; i < f->length * sizeof *run; i++)
+    for (size_t i = skeptolyr_is_refusal(answer) ? 0 : (size_t)answer * sizeof *run; i < f->length * sizeof *run; i++)
         if (octets[i] != filling)
             fault_of(q, f, "changes a number that is not its own", octets[i], (uint64_t)filling);
 }
@@ -301,9 +336,9 @@ static int64_t *lend_run(const struct numbering *f, int filling)
     return run;
 }
 
-static void compare_runs(const struct question *q, const struct numbering *f, const char *what, const int64_t *found, const int64_t *wanted)
+static void compare_runs(const struct question *q, const struct numbering *f, const char *what, size_t count, const int64_t *found, const int64_t *wanted)
 {
-    for (size_t i = 0; i < f->count; i++)
+    for (size_t i = 0; i < count; i++)
         if (found[i] != wanted[i])
             fault_of(q, f, what, (uint64_t)found[i], (uint64_t)wanted[i]);
 }
@@ -321,8 +356,8 @@ static void ask_numbers_thrice(const struct question *q, const struct numbering 
         fault_of(q, f, "and the independent decoder differ", answer, wanted);
     judge_run(q, f, answer, third, FILLING);
     if (!skeptolyr_is_refusal(answer)) {
-        compare_runs(q, f, "puts numbers twice, and differently", second, first);
-        compare_runs(q, f, "puts another number than the independent decoder", first, third);
+        compare_runs(q, f, "puts numbers twice, and differently", (size_t)answer, second, first);
+        compare_runs(q, f, "puts another number than the independent decoder", (size_t)answer, first, third);
     }
     take_back(first, f->length * sizeof *first);
     take_back(second, f->length * sizeof *second);
@@ -338,12 +373,15 @@ int LLVMFuzzerTestOneInput(const uint8_t *data, size_t size)
     memcpy(file, data + QUESTION_OCTETS, length);
     struct question q = {
         file, length, near_or_far(data[0]), near_or_far(data[1]), run_length(data + 2), run_length(data + 4),
-        data[6] & MOST_NUMBERS, near_or_far(data[7]), data[8] & MOST_OF_PLACE};
-    struct numbering describe = {"describe", ask_describe, ask_reference_describe, q.numbers_length, SKEPTOLYR_DESCRIPTION, NO_ROOM};
-    struct numbering place = {"place", ask_place, ask_reference_place, q.position_length, SKEPTOLYR_POSITION, NO_POINT};
+        data[6] & MOST_NUMBERS, near_or_far(data[7]), data[8] & MOST_OF_PLACE, data[9] & MOST_OF_PLACE};
+    struct numbering asked[] = {
+        {"describe", ask_describe, ask_reference_describe, q.numbers_length, SKEPTOLYR_DESCRIPTION, SKEPTOLYR_DESCRIPTION_LAMBERT, 0},
+        {"place", ask_place, ask_reference_place, q.position_length, SKEPTOLYR_POSITION, SKEPTOLYR_POSITION, 1},
+        {"sheet", ask_sheet, ask_reference_sheet, q.place_length, SKEPTOLYR_SHEET_PLACE, SKEPTOLYR_SHEET_PLACE, 1}};
     uint64_t decoded = ask_decode_thrice(&q, ask_check(&q));
-    ask_numbers_thrice(&q, &describe, decoded);
-    ask_numbers_thrice(&q, &place, decoded);
+    judge_kind(&q, decoded);
+    for (size_t i = 0; i < sizeof asked / sizeof *asked; i++)
+        ask_numbers_thrice(&q, asked + i, decoded);
     take_back(file, length);
     return 0;
 }

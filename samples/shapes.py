@@ -15,6 +15,16 @@ def area(ni, nj, first, last):
     return grib.section3(ni, nj, first, last, (last[1] - first[1]) // (ni - 1), (first[0] - last[0]) // (nj - 1))
 
 
+def japan(ni, nj):
+    """Section 3 of so many columns and rows in degrees, over Japan and the seas around it."""
+    return area(ni, nj, (47600000, 120000000), (22400000, 150000000))
+
+
+def cone(ni, nj):
+    """Section 3 of so many columns and rows, 5 km apart, on the sheet of the Agency's paper on model levels."""
+    return grib.section3_lambert(ni, nj, (44137789, 102008758), 5000000, 5000000)
+
+
 def bitmap(marks):
     """The octets of a bitmap, from a mark of 0 or 1 a point."""
     return grib.packed((marks, 1))
@@ -84,7 +94,7 @@ def pressure_levels(fields=92, ni=601, nj=631, present=349363, seed=1):
     marks = bytearray(points)
     for point in rng.sample(range(points), present):
         marks[point] = 1
-    body = [grib.section1(grib.time(2017, 5, 15, 12, 0, 0)), area(ni, nj, (47600000, 120000000), (22400000, 150000000))]
+    body = [grib.section1(grib.time(2017, 5, 15, 12, 0, 0)), japan(ni, nj)]
     for k in range(fields):
         body += [grib.instant(k % 4, k % 7, 100, (-2, 1000 - 10 * k), 1, k), grib.section5(present, bytes.fromhex('43800000'), k % 5, 2, 12),
                  grib.section6(0, bitmap(marks)) if k == 0 else grib.section6(254), grib.section(7, rng.randbytes(-(-present * 12 // 8)))]
@@ -105,19 +115,20 @@ def lfm(times=1, seed=2):
         marks += [0] * west + [1] * (ni - west - east) + [0] * east
     values = marked(smooth(rng, ni, nj, 4095), marks)
     return grib.message(
-        grib.section1(grib.time(2017, 5, 15, 12, 0, 0)), area(ni, nj, (47600000, 120000000), (22400000, 150000000)),
+        grib.section1(grib.time(2017, 5, 15, 12, 0, 0)), japan(ni, nj),
         grib.instant(0, 0, 103, (1, 15), 0, 60), grib.section5(len(values), bytes.fromhex('46d00000'), 2, 2, 12),
         grib.section6(0, bitmap(marks)), grib.section7(values, 12))
 
 
-def msm(times=1, seed=3):
-    """The Agency's paper on model levels: 540,037 points, all present, in groups of 32 by template 5.3. Its grid is one of longitudes here."""
+def msm(times=1, seed=3, grid=japan):
+    """The Agency's paper on model levels: 540,037 points, all present, in groups of 32 by template 5.3. Its grid is in degrees here, unless the Agency's
+    own, `cone`, is asked for."""
     ni, nj = 817, 661 * times
     values = smooth(random.Random(seed), ni, nj, 16383)
     lengths = [32] * (len(values) // 32) + [len(values) % 32] * (len(values) % 32 > 0)
     five, seven = complex_packing(values, lengths, bytes.fromhex('c3480000'), -6, 0, 32, 1)
     return grib.message(
-        grib.section1(grib.time(2017, 5, 15, 12, 0, 0)), area(ni, nj, (47600000, 120000000), (22400000, 150000000)),
+        grib.section1(grib.time(2017, 5, 15, 12, 0, 0)), grid(ni, nj),
         grib.instant(2, 2, 118, (0, 1), 0, 180), five, grib.section6(255), seven)
 
 

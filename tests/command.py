@@ -136,6 +136,14 @@ def members_of_time(when):
     return dict(zip(('year', 'month', 'day', 'hour', 'minute', 'second'), reading.time_numbers(when) if when else [0] * 6))
 
 
+def members_of_kind(grid):
+    """The first point, and what a grid of one kind has alone. What the other kind has is None."""
+    first, last = (dict(zip(('latitude', 'longitude'), grid[name])) for name in ('first', 'last'))
+    if grid['template'] == reading.LAMBERT:
+        return {'grid_template': 30, 'first': first, 'last': None, 'di': None, 'dj': None, 'lambert': grid['lambert']}
+    return {'grid_template': 0, 'first': first, 'last': last, 'di': grid['di'], 'dj': grid['dj'], 'lambert': None}
+
+
 def members_of(file, k):
     """The numbers of a description by the names of the header, from the independent reading; or the members of a refusal."""
     refused = refusal_of(reading.describe, file, k)
@@ -145,10 +153,9 @@ def members_of(file, k):
     told = reading.describe(file, k)
     grid, (end, kind) = told['grid'], told['product'] or (None, 0)
     factor, scaled = told['level'] or (0, 0)
-    positions = {name: dict(zip(('latitude', 'longitude'), grid[name])) for name in ('first', 'last')}
     return {
         'field': k, 'discipline': told['discipline'], 'status': told['status'], 'reference': members_of_time(told['reference']), 'earth': grid['earth'],
-        'radius': grid['radius'], 'ni': grid['ni'], 'nj': grid['nj'], 'points': grid['ni'] * grid['nj'], **positions, 'di': grid['di'], 'dj': grid['dj'],
+        'radius': grid['radius'], 'ni': grid['ni'], 'nj': grid['nj'], 'points': grid['ni'] * grid['nj'], **members_of_kind(grid),
         'category': told['category'], 'parameter': told['parameter'], 'process': told['process'], 'surface': told['surface'],
         'level': {'is_given': int(told['level'] is not None), 'factor': factor, 'scaled': scaled}, 'product_template': 8 if end else 0,
         'end': members_of_time(end), 'kind': kind, 'valid': members_of_time(told['valid']), 'present': told['n'], 'r': told['r'], 'e': told['e'],
@@ -180,6 +187,7 @@ def is_listed_as_json(command):
     files = dict(SAMPLES)
     files.update(('rule%d' % i, file) for i, (_, file, _) in enumerate(fields.rules()))
     files.update(('later%d' % i, file) for i, (_, file, _, _) in enumerate(fields.later_fields()))
+    files.update(on_sheets())
     files['three'] = EXAMPLE * 3
     files['refused in the second message'] = EXAMPLE + SAMPLES['refused/10-grid.grib2'] + EXAMPLE
     for name, octets in files.items():
@@ -191,9 +199,10 @@ def is_listed_as_json(command):
         wanted = members_of_file(name, octets)
         if told != wanted:
             yield '%s: it has %r, and not %r' % (name, told, wanted)
-    status, listed = json_of(command, 'two-fields.grib2')
-    if status != 0 or listed != [members_of_file('two-fields.grib2', EXAMPLE)]:
-        yield 'of a good file it exits with %d and has %r' % (status, listed)
+    for name in ('two-fields.grib2', 'lambert.grib2'):
+        status, listed = json_of(command, name)
+        if status != 0 or listed != [members_of_file(name, SAMPLES[name])]:
+            yield 'of a good file it exits with %d and has %r' % (status, listed)
 
 
 # Names of files as octets, and as JSON has to tell them. Where a part of a character is wrong, each of its octets is told as one that is none.
@@ -245,7 +254,7 @@ def cells_of(file, k):
     grid = told['grid']
     return [
         str(k), None, '%d.%d.%d' % (told['discipline'], told['category'], told['parameter']), None, moment(told['reference']), valid_time(told),
-        '%d x %d' % (grid['ni'], grid['nj']), '%d of %d' % (told['n'], grid['ni'] * grid['nj']),
+        '%d x %d%s' % (grid['ni'], grid['nj'], ', Lambert' * (grid['template'] == reading.LAMBERT)), '%d of %d' % (told['n'], grid['ni'] * grid['nj']),
         '%s, %s' % ('complex' if told['template'] else 'simple', plural(told['bits'], 'bit'))]
 
 
@@ -273,6 +282,7 @@ def is_listed_as_table(command):
     files = {name: octets for name, octets in SAMPLES.items() if not refusal_of(reading.messages, octets)}
     files.update(('rule%d' % i, file) for i, (_, file, _) in enumerate(fields.rules()[::7]))
     files.update(('later%d' % i, file) for i, (_, file, _, _) in enumerate(fields.later_fields()) if not refusal_of(reading.messages, file))
+    files.update(on_sheets())
     for name, octets in files.items():
         command.put(octets, name)
     found = list(tables(command, *files))
@@ -463,16 +473,16 @@ def in_the_seas():
         yield from ((10, over(0, 2, day, 1, *element, 160, (1, depth))) for depth in DEPTHS for element in [(4, 15), (4, 192), (1, 2), (1, 3)])
 
 
-def asked_of_eccodes(command, name):
+def asked_of_eccodes(command, name, what, keys):
     """What ecCodes has of each message of a file, by its own keys. Steps are asked for in minutes, which all steps of the papers are."""
     if not shutil.which('grib_ls'):
         debian.install(['libeccodes-tools'])
     if not shutil.which('grib_ls'):
-        raise report.Skipped(BESIDE, "Debian's package libeccodes-tools could not be installed")
-    done = subprocess.run(['grib_ls', '-j', '-s', 'stepUnits=m', '-p', ','.join(ECCODES_KEYS), name], cwd=command.folder, stdout=subprocess.PIPE, check=True)
+        raise report.Skipped(what, "Debian's package libeccodes-tools could not be installed")
+    done = subprocess.run(['grib_ls', '-j', '-s', 'stepUnits=m', '-p', ','.join(keys), name], cwd=command.folder, stdout=subprocess.PIPE, check=True)
     found = json.loads(done.stdout)['messages']
     if found and found[0]['tablesVersionLatest'] < TABLES:
-        raise report.Skipped(BESIDE, "this machine's ecCodes has version %d of WMO's tables, which is too old" % found[0]['tablesVersionLatest'])
+        raise report.Skipped(what, "this machine's ecCodes has version %d of WMO's tables, which is too old" % found[0]['tablesVersionLatest'])
     return found
 
 
@@ -529,7 +539,7 @@ def agrees_with_eccodes(command):
     """ls names the element, the level and the times of every field that the Agency's papers list as the keys of ecCodes have them."""
     asked = [*on_model_levels(), *on_pressure_levels(), *in_the_seas()]
     command.put(b''.join(grib.spliced(field_with(discipline, product), TABLES_AT, bytes([TABLES])) for discipline, product in asked))
-    theirs = asked_of_eccodes(command, FILE)
+    theirs = asked_of_eccodes(command, FILE, BESIDE, ECCODES_KEYS)
     ours = json.loads(command.run('ls', '--json', FILE)[1])[0].get('fields', [])
     listed = {(field['discipline'], field['category'], field['parameter']) for field in ours}
     missing = {row[:3] for paper in list(PAPERS)[:3] for row in PAPERS[paper]} - listed
@@ -539,6 +549,62 @@ def agrees_with_eccodes(command):
     yield from faults[:report.MOST_SHOWN]
     if len(faults) > report.MOST_SHOWN:
         yield 'and %d faults more' % (len(faults) - report.MOST_SHOWN)
+
+
+# ---- Lambert grids
+
+def on_sheets():
+    """Files with Lambert grids: the smallest and the largest steps and numbers, the earth of code 6, and grids of both kinds in one message."""
+    pole, longest = 90000000, 2147483647
+    south = {'stated': -pole, 'upright': 359999999, 'cutting': (-1, -pole), 'radius': None}
+    two, cone = grib.two_fields(), fields.two_lambert_fields()
+    return {
+        'small steps': fields.lambert(3, 2, dx=1, dy=999), 'long steps': fields.lambert(3, 4, first=(-pole, 359999999), dx=longest, dy=longest - 1, **south),
+        'a point on a sheet': fields.lambert(1, 1, first=(0, 0), dx=1000, dy=1001, stated=0, upright=0, cutting=(pole, 0)),
+        'both kinds': grib.message(two[16:272], cone[37:-4], two[37:272]), 'both kinds, apart': cone + two + cone}
+
+
+def kinds_are_told(command):
+    """The words of ls --json for a grid are those of the table: its size and, where it is a Lambert grid, that it is one."""
+    wanted = [(fields.blank(3, 2), '3 x 2'), (fields.lambert(3, 2), '3 x 2, Lambert')]
+    wanted += [(SAMPLES['lambert.grib2'], '82 x 67, Lambert'), (SAMPLES['islands.grib2'], '181 x 151')]
+    for (_, want), (words, cells) in zip(wanted, words_of(command, [file for file, _ in wanted])):
+        if words['grid'] != want or cells[HEAD.index('grid')] != want:
+            yield '%r in the table, %r in JSON, and not %r' % (cells[HEAD.index('grid')], words['grid'], want)
+
+
+# The keys of ecCodes for what a grid of either kind has, by our names. The steps have the same keys, Dx and Dy, on grids of both kinds.
+ECCODES_GRIDS = {
+    'earth': 'shapeOfTheEarth', 'grid_template': 'gridDefinitionTemplateNumber', 'ni': 'Ni', 'nj': 'Nj', 'points': 'numberOfDataPoints',
+    'first.latitude': 'latitudeOfFirstGridPoint', 'first.longitude': 'longitudeOfFirstGridPoint', 'last.latitude': 'latitudeOfLastGridPoint',
+    'last.longitude': 'longitudeOfLastGridPoint', 'lambert.stated_latitude': 'LaD', 'lambert.upright_meridian': 'LoV',
+    'lambert.cutting_latitude_1': 'Latin1', 'lambert.cutting_latitude_2': 'Latin2'}
+ECCODES_STEPS = {'lambert': {'lambert.dx': 'Dx', 'lambert.dy': 'Dy'}, 'regular_ll': {'di': 'Dx', 'dj': 'Dy'}}
+BESIDE_GRIDS = 'the grids of ls beside those of ecCodes'
+
+
+def number_at(field, path):
+    """The number that a path such as 'lambert.dx' leads to in the JSON of a field, or None where the grid has no such number."""
+    for name in path.split('.'):
+        field = field and field[name]
+    return field
+
+
+def grids_agree_with_eccodes(command):
+    """ls --json has every number of a Lambert grid and of a grid in degrees as the keys of ecCodes have it, and null where ecCodes has no such key."""
+    files = [SAMPLES['lambert.grib2'], SAMPLES['islands.grib2'], grib.grouped()] + [file for name, file in on_sheets().items() if 'both' not in name]
+    command.put(b''.join(files))
+    theirs = asked_of_eccodes(command, FILE, BESIDE_GRIDS, [*ECCODES_GRIDS.values(), 'Dx', 'Dy', 'gridType', 'tablesVersionLatest'])
+    ours = json.loads(command.run('ls', '--json', FILE)[1])[0].get('fields', [])
+    if not len(files) == len(ours) == len(theirs):
+        yield '%d files, of which ls has %d fields and ecCodes %d' % (len(files), len(ours), len(theirs))
+    for k, (field, message) in enumerate(zip(ours, theirs)):
+        if ('Lambert' in field['words']['grid']) != (message['gridType'] == 'lambert'):
+            yield 'field %d is %s, and for ecCodes %s' % (k, field['words']['grid'], message['gridType'])
+        for path, key in {**ECCODES_GRIDS, **ECCODES_STEPS[message['gridType']]}.items():
+            their = None if message[key] == 'not_found' else message[key]
+            if number_at(field, path) != their:
+                yield 'field %d: %s is %s, and for ecCodes %s' % (k, path, number_at(field, path), their)
 
 
 # ---- show
@@ -557,6 +623,23 @@ def millionths(number):
     return '%s%d.%06d' % ('-' if number < 0 else '', abs(number) // 1000000, abs(number) % 1000000)
 
 
+def thousandths(number):
+    return '%d.%03d' % divmod(number, 1000)
+
+
+def shown_of_kind(grid):
+    """The numbers that show is to print of a grid of one kind alone, by their names."""
+    if grid['template'] == reading.DEGREES:
+        return {
+            'last latitude': millionths(grid['last'][0]), 'last longitude': millionths(grid['last'][1]), 'step east Di': millionths(grid['di']),
+            'step south Dj': millionths(grid['dj'])}
+    cone = grid['lambert']
+    return {
+        'stated latitude': millionths(cone['stated_latitude']), 'upright meridian': millionths(cone['upright_meridian']),
+        'step right Dx': thousandths(cone['dx']), 'step down Dy': thousandths(cone['dy']),
+        'cutting latitude 1': millionths(cone['cutting_latitude_1']), 'cutting latitude 2': millionths(cone['cutting_latitude_2'])}
+
+
 def shown_of(told):
     """The numbers that show is to print of a field, by their names."""
     grid = told['grid']
@@ -564,8 +647,8 @@ def shown_of(told):
     kind = {'kind of interval': told['product'][1]} if told['product'] else {}
     return {
         'discipline': told['discipline'], 'status': told['status'], "earth's shape": grid['earth'], 'radius': grid['radius'], 'columns Ni': grid['ni'], 'rows Nj': grid['nj'],
-        'points': grid['ni'] * grid['nj'], 'first latitude': millionths(grid['first'][0]), 'first longitude': millionths(grid['first'][1]),
-        'last latitude': millionths(grid['last'][0]), 'last longitude': millionths(grid['last'][1]), 'step east Di': millionths(grid['di']), 'step south Dj': millionths(grid['dj']),
+        'points': grid['ni'] * grid['nj'], 'grid template': grid['template'], 'first latitude': millionths(grid['first'][0]),
+        'first longitude': millionths(grid['first'][1]), **shown_of_kind(grid),
         'category': told['category'], 'parameter': told['parameter'], 'kind of process': told['process'], 'surface': told['surface'], **level,
         'product template': 8 if told['product'] else 0, **kind, 'N': told['n'], 'R': '0x%08X' % told['r'], 'E': told['e'], 'D': told['d'], 'bits': told['bits'],
         'data template': told['template'], 'bitmap indicator': told['indicator']}
@@ -595,6 +678,7 @@ def is_shown(command):
     files = {name: octets for name, octets in SAMPLES.items()}
     files.update(('rule%d' % i, file) for i, (_, file, _) in enumerate(fields.rules()[::9]))
     files['grouped'] = grib.grouped()
+    files.update(on_sheets())
     put_samples(command)
     asked = 0
     for name, octets in files.items():
@@ -606,28 +690,44 @@ def is_shown(command):
     if asked < 20:
         yield 'only %d fields were asked for' % asked
     printed = command.run('show', 'two-fields.grib2', '1')[1]
-    for words in ('total precipitation [kg m-2]', 'meteorology', 'operational', 'moisture', 'forecast', 'ground or water surface', 'an interval', 'a sum', 'an earlier bitmap', 'simple packing'):
+    for words in (
+            'total precipitation [kg m-2]', 'meteorology', 'operational', 'moisture', 'forecast', 'ground or water surface', 'an interval', 'a sum',
+            'an earlier bitmap', 'simple packing', 'a grid in degrees'):
         if words not in printed:
             yield 'of the rain it does not say %r' % words
+    printed = command.run('show', 'lambert.grib2', '0')[1]
+    for line in (
+            '  grid template         30            a Lambert grid', '  radius                6371000       m', '  first latitude        44.137789     degrees',
+            '  stated latitude       30.000000     degrees, LaD: where Dx and Dy are lengths on the earth',
+            '  upright meridian      140.000000    degrees, LoV',
+            '  step right Dx         50000.000     m', '  step down Dy          50000.000     m', '  cutting latitude 1    60.000000     degrees, Latin 1',
+            '  cutting latitude 2    30.000000     degrees, Latin 2'):
+        if line not in printed.split('\n'):
+            yield 'of the Lambert grid it has no line %r' % line
 
 
 # ---- values
 
+def places_of(grid):
+    """The head of the places, and the place of each point as values is to print it: in degrees, or on the sheet in metres."""
+    points = range(grid['ni'] * grid['nj'])
+    if grid['template'] == reading.DEGREES:
+        return 'latitude longitude', ['%s %s' % tuple(map(millionths, reading.position(grid, n))) for n in points]
+    dx, dy = grid['lambert']['dx'], grid['lambert']['dy']
+    return 'metres_right metres_down', ['%s %s' % (thousandths(n % grid['ni'] * dx), thousandths(n // grid['ni'] * dy)) for n in points]
+
+
 def lines_of_values(file, k):
     """What values is to print: the place of each point, and its double in 17 digits."""
     points, present, _, doubles = reading.decode(file, k, 0, 1 << 24, 1 << 24)
-    grid = reading.describe(file, k)['grid']
-    lines = ['latitude longitude value']
-    for n in range(points):
-        latitude, longitude = reading.position(grid, n)
-        lines.append('%s %s %s' % (millionths(latitude), millionths(longitude), '%.17g' % doubles[n] if present[n] == '1' else 'missing'))
-    return lines
+    head, places = places_of(reading.describe(file, k)['grid'])
+    return [head + ' value'] + ['%s %s' % (places[n], '%.17g' % doubles[n] if present[n] == '1' else 'missing') for n in range(points)]
 
 
 def has_values(command):
-    """values prints every point of every field: its exact latitude and longitude, and 17 digits of its value, from which the same double is read; or missing."""
+    """values prints every point: its exact place, in degrees or on a sheet, and 17 digits of its value, from which the same double is read; or missing."""
     south = fields.blank(3, 4, first=(0, 359000000), last=(-90000000, 1000000), di=1000001, dj=30000001)
-    files = {**SAMPLES, 'grouped': grib.grouped(), 'three': EXAMPLE * 3, 'down to the pole': south, 'a point': fields.blank(1, 1, first=(-1, 0))}
+    files = {**SAMPLES, 'grouped': grib.grouped(), 'three': EXAMPLE * 3, 'down to the pole': south, 'a point': fields.blank(1, 1, first=(-1, 0)), **on_sheets()}
     put_samples(command)
     asked = 0
     for name, octets in files.items():
@@ -646,6 +746,8 @@ def has_values(command):
         yield 'only %d fields were asked for' % asked
     if lines_of_values(EXAMPLE, 0)[1:3] != ['36.000000 135.000000 291.19999999999999', '36.000000 136.000000 missing']:
         yield 'the test does not know the example'
+    if lines_of_values(SAMPLES['lambert.grib2'], 0)[82].split()[:2] != ['4050000.000', '0.000']:
+        yield 'the test does not know the Lambert sample'
 
 
 # ---- refusals
@@ -656,7 +758,7 @@ def are_refused(command):
     with open(command.path('too-long.grib2'), 'wb') as out:
         out.truncate(make.TOO_LONG)
     for refusal in make.REFUSALS:
-        if refusal.number == 15:
+        if not refusal.is_for_commands():
             continue
         named = refusal.file if refusal.number < 8 else '%s, field %d' % (refusal.file, refusal.field)
         said = said_of(named, refusal)
@@ -1009,8 +1111,9 @@ def writes_to_devices(command):
 
 TESTS = [
     is_checked, goes_on, is_listed_as_json, has_odd_names, is_listed_as_table, one_of_each_refusal, parameters_are_named, levels_are_told, times_are_told,
-    agrees_with_eccodes, is_shown, has_values, are_refused, is_no_file, may_not_be_read, reads_pipes, takes_no_more, shrinks, cannot_print, is_not_read,
-    is_interrupted, shows_progress, is_misused, helps, keeps_what_was_there, takes_its_place, writes_to_devices]
+    agrees_with_eccodes, kinds_are_told, grids_agree_with_eccodes, is_shown, has_values, are_refused, is_no_file, may_not_be_read, reads_pipes,
+    takes_no_more, shrinks, cannot_print, is_not_read, is_interrupted, shows_progress, is_misused, helps, keeps_what_was_there, takes_its_place,
+    writes_to_devices]
 
 
 def tried(test, words):

@@ -59,6 +59,42 @@ def some(ni, nj):
     return packed_as([n * n % 97 for n in range(ni * nj)], 7)
 
 
+def on_sheet(ni, nj, dx, dy, packed=None, six=decoding.ALL, first=(44137789, 102008758)):
+    """A file of one field on a Lambert grid: its steps in thousandths of a metre, (section 5, section 7), and a bitmap."""
+    packed = packed or some(ni, nj)
+    return message_of(grib.section3_lambert(ni, nj, first, dx, dy) + decoding.INSTANT + packed[0] + six + packed[1])
+
+
+def sheets():
+    """Lambert grids: (columns, rows, steps to the right and down in thousandths of a metre)."""
+    longest = 2147483647
+    yield 82, 67, 50000000, 50000000
+    # Steps that differ, a little, much, and more than the picture follows; either may be the longer one.
+    yield 40, 30, 5000000, 7500000
+    yield 40, 30, 7500000, 5000000
+    yield 7, 5, 1000, 1001
+    yield 300, 200, 3000000, 3000001
+    yield 61, 47, 3141593, 2718282
+    yield 6, 9, 1000, 7999
+    yield 6, 9, 8000, 1000
+    yield 6, 9, 1000, 8001
+    yield 3, 40, 1, longest
+    yield 40, 3, longest, 1
+    yield 700, 10, 1000, 1500
+    yield 10, 700, 1500, 1000
+    # The shortest and the longest steps, one column, one row, and one point.
+    yield 20, 20, 1, 1
+    yield 3, 3, longest, longest
+    yield 600, 2, longest, longest
+    yield 1, 1, 1, longest
+    yield 1, 5, 10000, 30000
+    yield 5, 1, 30000, 10000
+    yield 2, 2, 1000000000, 1000000000
+    # Half a step behind the last point a round kilometre lies on the edge, or just behind it.
+    yield 11, 3, 95238095, 95238095
+    yield 11, 3, 95238096, 95238096
+
+
 def grids():
     """Grids all over the earth: (columns, rows, first point, steps)."""
     yield 12, 7, (90000000, 0), (30000000, 30000000)
@@ -118,6 +154,12 @@ def drawn_files():
         yield '%d x %d points' % (ni, nj), message_of(one_field(ni, nj, some(ni, nj))), (0,)
     for ni, nj, first, step in grids():
         yield 'a grid from %s on' % (first,), message_of(one_field(ni, nj, some(ni, nj), first=first, step=step)), (0,)
+    yield 'the Lambert sample', make.samples()['lambert.grib2'], (0,)
+    yield 'a sheet with missing points', on_sheet(4, 2, 1000, 2000, packed_as([5, 6, 7, 5, 3, 4], 3), grib.section6(0, b'\x7e')), (0,)
+    both = [one_field(3, 2, some(3, 2)), on_sheet(3, 2, 1000, 1500)[37:-4], one_field(2, 3, some(2, 3))]
+    yield 'grids of both kinds', message_of(*both), range(3)
+    for ni, nj, dx, dy in sheets():
+        yield 'a sheet of %d x %d points by %d and %d' % (ni, nj, dx, dy), on_sheet(ni, nj, dx, dy), (0,)
 
 
 # ---- what is to be drawn
@@ -130,6 +172,7 @@ DEGREE, TURN = 1000000, 360000000
 TITLES = {
     (0, 0, 0, 1, None): ('temperature [K], ground or water surface', 'in K'),
     (0, 0, 0, 103, (0, 10)): ('temperature [K], 10 m above ground', 'in K'),
+    (0, 0, 0, 103, (1, 15)): ('temperature [K], 1.5 m above ground', 'in K'),
     (0, 1, 8, 1, None): ('total precipitation [kg m-2], ground or water surface', 'in kg m-2'),
     (0, 2, 2, 100, (-2, 850)): ('u-component of wind [m s-1], 850 hPa', 'in m s-1'),
     (10, 3, 0, 1, None): ('water temperature [K], ground or water surface', 'in K'),
@@ -161,7 +204,7 @@ class Field:
     last bit of a quotient decides."""
 
     def __init__(self, grid, lowest, highest, missing, colours, lines, unit, scale=None, outside=(0, 0)):
-        self.ni, self.nj, self.first, last = grid['ni'], grid['nj'], grid['first'], grid['last']
+        self.ni, self.nj, self.first, self.lambert, last = grid['ni'], grid['nj'], grid['first'], grid.get('lambert'), grid['last']
         self.spans = (last[1] - self.first[1]) % TURN, self.first[0] - last[0]
         self.lowest, self.highest, self.missing, self.colours = lowest, highest, missing, colours
         self.lines, self.unit, self.asked, self.outside = lines, unit, scale is not None, outside
@@ -224,8 +267,27 @@ def degrees(millionths, is_latitude):
     return '{:f}'.format((decimal.Decimal(abs(turned)) / DEGREE).normalize()) + '\x7f' + letter
 
 
+def kilometres(length):
+    """As they are written beside a sheet, of thousandths of a metre."""
+    return '{:f}'.format((decimal.Decimal(length) / 10 ** 6).normalize()) + ' km'
+
+
+def lengths_along(step, count, pixels, dot, is_upright):
+    """The marks along a side of a sheet of so many pixels: (pixels from its start, the kilometres that are written there)."""
+    side, found = fractions.Fraction(pixels, count), []
+    for size in [digit * 10 ** power for power in range(15) for digit in (1, 2, 5)] if count > 1 else []:
+        distance = math.floor(size * side / step)
+        if distance * 8 < pixels:
+            continue
+        lengths = range(0, (count - 1) * step + step // 2 + 1, size)
+        found = [(math.floor((fractions.Fraction(length, step) + fractions.Fraction(1, 2)) * side), kilometres(length)) for length in lengths]
+        if distance >= dot * (LINE if is_upright else GAP + max(width_of(text) for _, text in found)):
+            break
+    return found or [(math.floor(side / 2), kilometres(0))]
+
+
 def ticks(is_latitude, first, span, count, side, dot):
-    """The marks along a side: (pixels from its start, what is written there)."""
+    """The marks along a side in degrees: (pixels from its start, what is written there)."""
     step = fractions.Fraction(span, max(count - 1, 1))
 
     def made(places):
@@ -282,18 +344,35 @@ def wrapped(text, room):
     return lines + [text]
 
 
+def halves_up(number):
+    return math.floor(number + fractions.Fraction(1, 2))
+
+
+def size_of(field):
+    """How many pixels the field is wide and high. On a sheet, the longer step of a point takes as many times the pixels of the shorter one as it is longer, but
+    at most eight times as many."""
+    dx, dy = (field.lambert['dx'], field.lambert['dy']) if field.lambert else (1, 1)
+    across, down = (min(fractions.Fraction(step, min(dx, dy)), 8) for step in (dx, dy))
+    longer = max(halves_up(field.ni * across), halves_up(field.nj * down))
+    side = min(max((512 + longer // 2) // longer, 1), 64)
+    return halves_up(field.ni * side * across), halves_up(field.nj * side * down)
+
+
 class Layout:
     """Where things are, in pixels."""
 
     def __init__(self, field):
-        self.side = min(max((512 + max(field.ni, field.nj) // 2) // max(field.ni, field.nj), 1), 64)
-        self.field_width, self.field_height = field.ni * self.side, field.nj * self.side
+        self.field_width, self.field_height = size_of(field)
         self.dot = dot = 2 * max(min(self.field_width, self.field_height) // 512, 1)
-        self.longitudes = ticks(False, field.first[1], field.spans[0], field.ni, self.side, dot)
-        self.latitudes = ticks(True, field.first[0], field.spans[1], field.nj, self.side, dot)
+        if field.lambert:
+            self.below = lengths_along(field.lambert['dx'], field.ni, self.field_width, dot, False)
+            self.beside = lengths_along(field.lambert['dy'], field.nj, self.field_height, dot, True)
+        else:
+            self.below = ticks(False, field.first[1], field.spans[0], field.ni, self.field_width // field.ni, dot)
+            self.beside = ticks(True, field.first[0], field.spans[1], field.nj, self.field_height // field.nj, dot)
         self.labels = field.labels()
-        beside = (max(width_of(text) for _, text in self.latitudes) + LABEL_GAP + TICK + MARGIN) * dot
-        first, last = self.longitudes[0], self.longitudes[-1]
+        beside = (max(width_of(text) for _, text in self.beside) + LABEL_GAP + TICK + MARGIN) * dot
+        first, last = self.below[0], self.below[-1]
         self.left = max(beside, (width_of(first[1]) // 2 + MARGIN) * dot - first[0])
         ends = max(map(width_of, self.labels[::2])) if len(self.labels) == 3 else 0
         middle = width_of(self.labels[len(self.labels) // 2]) if self.labels else 0
@@ -310,10 +389,10 @@ class Layout:
 
 def draw_coordinates(canvas, at):
     line, bottom = at.dot // 2, at.top + at.field_height
-    for x, text in at.longitudes:
+    for x, text in at.below:
         canvas.ink(at.left + x - line // 2, bottom + line, line, TICK * at.dot)
         canvas.write(at.left + x - width_of(text) * at.dot // 2, bottom + (TICK + LABEL_GAP) * at.dot, at.dot, text)
-    for y, text in at.latitudes:
+    for y, text in at.beside:
         canvas.ink(at.left - TICK * at.dot - line, at.top + y - line // 2, TICK * at.dot, line)
         canvas.write(at.left - (TICK + LABEL_GAP + width_of(text)) * at.dot, at.top + y - DIGIT_HEIGHT * at.dot // 2, at.dot, text)
 
@@ -331,14 +410,17 @@ def draw_scale(canvas, at):
 def picture_of(field, colours):
     """The picture, row by row, of the colours' numbers."""
     at = Layout(field)
-    canvas, side, dot = Canvas(at.width, at.height), at.side, at.dot
+    canvas, dot = Canvas(at.width, at.height), at.dot
     for n, (line, is_title) in enumerate(at.lines):
         for shift in (0, dot // 2) if is_title else (0,):
             canvas.write(MARGIN * dot + shift, (MARGIN + LINE * n) * dot, dot, line)
     canvas.framed(at.left, at.top, bytes(at.field_width), at.field_height, dot // 2)
+    ends = [i * at.field_width // field.ni for i in range(field.ni + 1)]
     for j in range(field.nj):
         row = colours[j * field.ni:(j + 1) * field.ni]
-        canvas.fill(at.left, at.top + j * side, row if side == 1 else bytes(colour for colour in row for _ in range(side)), side)
+        top, bottom = j * at.field_height // field.nj, (j + 1) * at.field_height // field.nj
+        pixels = row if at.field_width == field.ni else b''.join(row[i:i + 1] * (ends[i + 1] - ends[i]) for i in range(field.ni))
+        canvas.fill(at.left, at.top + top, pixels, bottom - top)
     draw_coordinates(canvas, at)
     if at.labels:
         draw_scale(canvas, at)
@@ -548,6 +630,24 @@ def both_ends(draw):
             yield '%s: no mark has moved' % name
 
 
+def true_to_shape(draw):
+    """On the picture of a sheet a length is as long downward as to the right, to a pixel; the places of the marks are those of the library's sheet."""
+    for ni, nj, dx, dy in sheets():
+        file = on_sheet(ni, nj, dx, dy)
+        at = Layout(Field.read(file, 0))
+        if max(dx, dy) <= 8 * min(dx, dy) and abs(at.field_width * nj * dy - at.field_height * ni * dx) > max(ni * dx, nj * dy):
+            yield '%d x %d points by %d and %d: %d x %d pixels' % (ni, nj, dx, dy, at.field_width, at.field_height)
+        draw.put(file)
+        draw.run(FILE, '0', PICTURE)
+        octets = draw.get() or bytes(24)
+        if struct.unpack('>II', octets[16:24]) != (at.width, at.height):
+            yield '%d x %d points by %d and %d: the picture is %d x %d pixels' % (ni, nj, dx, dy, *struct.unpack('>II', octets[16:24]))
+        for marks, count, step, pixels in ((at.below, ni, dx, at.field_width), (at.beside, nj, dy, at.field_height)):
+            places = [(reading.sheet(file, 0, n if marks is at.below else n * ni)[marks is at.beside], n) for n in range(count)]
+            middles = {kilometres(place): (2 * n + 1) * pixels // (2 * count) for place, n in places}
+            yield from ('%s is marked at pixel %d of %d' % (text, where, pixels) for where, text in marks if middles.get(text, where) != where)
+
+
 def shared_scale(draw):
     """With --range the scale is the one that is asked for, its ends say if values lie past them, and pictures of one grid have one size."""
     islands, sizes = make.samples()['islands.grib2'], set()
@@ -706,7 +806,9 @@ def refusals(draw):
     """A refusal exits with 1 in exactly the words of the header, and leaves a picture that was there as it was."""
     cases = [(b'', 0, 2, 0), (EXAMPLE[:210] + EXAMPLE, 0, 7, 0), (EXAMPLE + EXAMPLE[:-1], 0, 3, 276), (EXAMPLE, 2, 8, 0), (grib.grouped(), 1, 8, 0),
              (grib.spliced(EXAMPLE, 37 + 14, b'\7'), 0, 10, 37)]
-    cases += [(make.samples()[refusal.file], refusal.field, refusal.number, refusal.place) for refusal in make.REFUSALS if refusal.number not in (1, 15)]
+    given = [refusal for refusal in make.REFUSALS if refusal.number > 1 and refusal.is_for_commands()]
+    cases += [(make.samples()[refusal.file], refusal.field, refusal.number, refusal.place) for refusal in given]
+    cases += [(on_sheet(2, 3, 0, 1000), 0, 10, 37), (grib.spliced(on_sheet(2, 3, 1000, 1000), 37 + 46, b'\x30'), 0, 10, 37)]
     draw.put(b'before', 'other.png')
     for file, k, number, place in cases:
         draw.put(file)
@@ -811,6 +913,11 @@ uint64_t skeptolyr_place(const uint8_t *file, size_t file_len, size_t k, size_t 
     (void)file; (void)file_len; (void)k; (void)n; (void)position; (void)position_len;
     return 0;
 }
+uint64_t skeptolyr_sheet(const uint8_t *file, size_t file_len, size_t k, size_t n, int64_t *place, size_t place_len)
+{
+    (void)file; (void)file_len; (void)k; (void)n; (void)place; (void)place_len;
+    return 0;
+}
 uint64_t skeptolyr_decode(const uint8_t *file, size_t file_len, size_t k, size_t start, double *values, size_t values_len, uint8_t *presence,
                           size_t presence_len)
 {
@@ -892,13 +999,15 @@ def example_ends(draw):
         yield 'a full disk: it exits with %d and says %r' % (run.returncode, run.stderr)
     os.remove(draw.path('picture.ppm'))
     for refusal in make.REFUSALS:
-        if refusal.number not in (1, 15):
+        if refusal.number > 1 and refusal.is_for_commands():
             draw.put(make.samples()[refusal.file])
             says = r'\Adraw: %s: %s\n\Z' % (FILE, re.escape(manual.refused(refusal.number, refusal.place)))
             yield draw.ended(1, FILE, str(refusal.field), 'picture.ppm', says=says)
 
 
-TESTS = [letters, every_pixel, both_ends, shared_scale, large_letters, the_largest, small_pictures, progress, misuse, refusals, elsewhere, cannot, any_doubles]
+TESTS = [
+    letters, every_pixel, both_ends, true_to_shape, shared_scale, large_letters, the_largest, small_pictures, progress, misuse, refusals, elsewhere, cannot,
+    any_doubles]
 EXAMPLE_TESTS = [example_pixels, example_ends]
 
 

@@ -22,7 +22,7 @@ AT_ONCE = 4
 # The section of each refusal of a field.
 SECTION_OF = {9: 1, 10: 3, 11: 4, 12: 5, 13: 6, 14: 7, 16: 7}
 # A line for octets: the mark, the section, the octets, and the octets in hexadecimal, where they are shown.
-LINE = re.compile(r'([! ]) ([0-8?-]) {2,}(?:(\d[-\d, ]*\d|\d|-)  )? *((?:[0-9a-f]{2} ){0,3}(?:[0-9a-f]{2}|\.\.)  )?')
+LINE = re.compile(r'([! ]) ([0-8?-]) {2,}(?:(\d+(?:-\d+)?(?:, \d+(?:-\d+)?)*|-)  )? *((?:[0-9a-f]{2} ){0,3}(?:[0-9a-f]{2}|\.\.)  )?')
 # The columns that a line may have.
 WIDEST = 120
 
@@ -140,16 +140,51 @@ def rules_are_marked(program):
 
 
 def changed_octets_are_marked(program):
-    """An octet that is changed to a number outside its limits is marked itself, and one that is changed to a number inside them is not"""
-    base = fields.Base(grib.two_fields())
+    """An octet that is changed to a number outside its limits is marked itself, and one that is changed to a number inside them is not, on either grid"""
+    degrees, lambert = fields.Base(grib.two_fields()), fields.Base(fields.two_lambert_fields())
+    changes = [(degrees, *change) for change in fields.octets_on_either_side()] + [(lambert, 3, *change) for change in fields.octets_of_lambert()]
     asked, wanted = [], []
-    for section, first, count, inside, outside in fields.octets_on_either_side():
+    for base, section, first, count, inside, outside in changes:
         for value in inside + outside:
             asked.append((base.with_octets(section, first, value, count), 0))
             wanted.append((str(section), set(range(first, first + count)), value in outside))
     for (file, k), (section, octets, outside), dump in zip(asked, wanted, all_dumped(program, asked)):
         if any(line.marked and line.section == section and line.octets & octets for line in dump.lines) != outside:
             yield shown(file, k, 'octets %s of section %s are %smarked' % (sorted(octets), section, 'not ' if outside else ''))
+
+
+# The octets of section 3 that have a rule on a Lambert grid, and those that have none.
+LAMBERT_JUDGED = [(1, 4), (5, 5), (6, 6), (7, 10), (11, 11), (12, 12), (13, 14), (15, 15), (16, 16), (17, 20), (31, 34), (35, 38), (39, 42), (43, 46), (47, 47),
+                  (48, 51), (52, 55), (56, 59), (60, 63), (64, 64), (65, 65), (66, 69), (70, 73)]
+LAMBERT_FREE = [(21, 21), (22, 25), (26, 26), (27, 30), (74, 77), (78, 81)]
+
+
+def lambert_is_told(program):
+    """Template 3.30 is known octet by octet: each number has a line with a rule, or one that says that it is not judged; and no line is of template 3.0"""
+    lambert = make.samples()['lambert.grib2']
+    dump = all_dumped(program, [(lambert, 0)])[0]
+    lines = [line for line in dump.lines if line.section == '3']
+    for first, last in LAMBERT_JUDGED + LAMBERT_FREE:
+        octets, is_free = set(range(first, last + 1)), (first, last) in LAMBERT_FREE
+        found = [line for line in lines if line.octets == octets and line.shown and 'octets that are not read' not in line.text]
+        if len(found) != 1 or found[0].text.endswith('not judged') != is_free:
+            yield 'octets %d-%d: %s' % (first, last, [line.text for line in found])
+    together = [line.text[5:].split('  ')[0] for line in lines if not line.shown]
+    if together != ['1-4, 13-14', '7-10, 31-38']:
+        yield 'rules over several numbers: %s' % together
+    if any(line.marked for line in dump.lines) or dump.status:
+        yield 'it ended with %d, or something is marked' % dump.status
+
+
+def kinds_do_not_mix(program):
+    """A section of one kind's length with the other kind's template is refused with 10, and the line that is marked first says which go together"""
+    degrees, lambert = grib.two_fields(), fields.two_lambert_fields()
+    asked = [(grib.spliced(degrees, 37 + 12, grib.number(30, 2)), 0), (grib.spliced(lambert, 37 + 12, grib.number(0, 2)), 0)]
+    for (file, k), dump, numbers in zip(asked, all_dumped(program, asked), ('72 and 30', '81 and 0')):
+        yield from (shown(file, k, fault) for fault in faults_of(file, k, dump, (10, 37)))
+        words = 'section 3, octets 1-4, 13-14: length and template: %s; they must be 72 and 0, or 81 and 30' % numbers
+        if words not in dump.said or 'length and template' not in next(line.text for line in dump.lines if line.marked):
+            yield 'not there: %s\n%s' % (words, dump.said)
 
 
 def samples_are_marked(program):
@@ -169,6 +204,7 @@ def sections_in_force(file, k):
 def every_octet_is_told(program):
     """Of each section in force for a field, every octet is in a line, and what is shown of octets is what the file has there"""
     files = [grib.two_fields(), grib.grouped(), make.samples()['islands.grib2'], grib.two_fields() * 2, make.samples()['refused/12-scale.grib2']]
+    files += [make.samples()['lambert.grib2'], fields.two_lambert_fields() + grib.two_fields()]
     asked = [(file, k) for file in files for k in range(len(reading.fields(file)))]
     for (file, k), dump in zip(asked, all_dumped(program, asked)):
         for section, (start, end) in sections_in_force(file, k).items():
@@ -203,16 +239,35 @@ def values_are_told(program):
             '  7  10-11   80 07        Zmin                               -7                     not judged',
             '  7  12-14   07 90 00     references, 3 of 7 bits            3 100 0                not judged',
             '  7  16-17   23 90        lengths of the groups              3 4 3                  at least 1 in each',
-            '  7  6-20    00 32 00 ..  integers X                         50 49 47 138 ..        from 0 to 2,147,483,647']}
+            '  7  6-20    00 32 00 ..  integers X                         50 49 47 138 ..        from 0 to 2,147,483,647'],
+        (fields.lambert(3, 2, first=(-1, 359999999), dx=1, dy=2147483647, stated=-30000000, upright=140000000, cutting=(-60000000, 90000000)), 0): [
+            '  3  1-4     00 00 00 51  length of the section              81                     72 or 81',
+            '  3  13-14   00 1e        template of the grid               30                     0 or 30, in degrees or Lambert',
+            '  3  1-4, 13-14           length and template                81 and 30              72 and 0, or 81 and 30',
+            '  3  39-42   80 00 00 01  latitude of the first point        -1                     from -90,000,000 to 90,000,000',
+            '  3  43-46   15 75 29 ff  longitude of the first point       359999999              from 0 to 359,999,999',
+            '  3  47      08           resolution and component flags     0x08                   0x08',
+            '  3  48-51   81 c9 c3 80  LaD, latitude of stated lengths    -30000000              from -90,000,000 to 90,000,000',
+            '  3  52-55   08 58 3b 00  LoV, the upright meridian          140000000              from 0 to 359,999,999',
+            '  3  56-59   00 00 00 01  Dx, thousandths of a metre right   1                      from 1 to 2,147,483,647',
+            '  3  60-63   7f ff ff ff  Dy, thousandths of a metre down    2147483647             from 1 to 2,147,483,647',
+            '  3  65      00           scanning mode                      0x00                   0x00: rightward, then downward',
+            '  3  66-69   83 93 87 00  Latin 1, first cutting latitude    -60000000              from -90,000,000 to 90,000,000',
+            '  3  70-73   05 5d 4a 80  Latin 2, second cutting latitude   90000000               from -90,000,000 to 90,000,000',
+            '  3  74-77   ff ff ff ff  latitude of the southern pole      all ones               not judged']}
     for (file, k), dump in zip(wanted, all_dumped(program, list(wanted))):
         yield from ('not there: %s' % line for line in wanted[file, k] if line not in dump.text.split('\n'))
 
 
 def faults_are_told(program):
     """Standard error names the octets and the rule that they break, for one number, for several together, and for a file that does not tile"""
-    two, groups = grib.two_fields(), grib.grouped()
+    two, groups, lambert = grib.two_fields(), grib.grouped(), fields.two_lambert_fields()
     wanted = [
         (grib.spliced(two, 37 + 54, b'\x20'), 'section 3, octet 55 is 0x20: it must be 0x30 ('),
+        (grib.spliced(lambert, 37 + 46, b'\x30'), 'section 3, octet 47 is 0x30: it must be 0x08 ('),
+        (grib.spliced(lambert, 37 + 55, bytes(4)), 'section 3, octets 56-59 are 0: they must be from 1 to 2,147,483,647 ('),
+        (grib.spliced(lambert, 37 + 65, b'\xff' * 4), 'section 3, octets 66-69 are all ones: they must be from -90,000,000 to 90,000,000 ('),
+        (grib.spliced(lambert, 37 + 12, b'\0\1'), 'section 3, octets 13-14 are 1: they must be 0 or 30, in degrees or Lambert ('),
         (grib.spliced(two, 16 + 5, b'\0\7'), 'section 1, octets 6-7 are 7: they must be 34, the Agency ('),
         (grib.spliced(two, 37 + 37, b'\3'), 'section 3, octets 7-10, 31-38: point count and Ni x Nj: 4 and 6; they must be equal'),
         (grib.spliced(two, 164 + 6, b'\xe0'), 'section 6, octet 7: points present, N of section 5: 3 and 2; they must be equal'),
@@ -230,8 +285,8 @@ def faults_are_told(program):
 def damaged_files():
     """Copies of good files with octets changed, cut out and cut off."""
     rng = random.Random(SEED)
-    files = [grib.two_fields(), grib.grouped(), grib.two_fields() + grib.grouped()]
-    for turn in range(300):
+    files = [grib.two_fields(), grib.grouped(), grib.two_fields() + grib.grouped(), fields.two_lambert_fields()]
+    for turn in range(400):
         file = bytearray(rng.choice(files))
         for _ in range(rng.choice((1, 1, 1, 2, 5))):
             file[rng.randrange(len(file))] = rng.choice((0, 1, 2, 127, 128, 255, rng.randrange(256)))
@@ -265,7 +320,8 @@ def misuse_is_told(program):
 
 
 TESTS = [
-    rules_are_marked, changed_octets_are_marked, samples_are_marked, every_octet_is_told, values_are_told, faults_are_told, damage_is_marked, misuse_is_told,
+    rules_are_marked, changed_octets_are_marked, lambert_is_told, kinds_do_not_mix, samples_are_marked, every_octet_is_told, values_are_told, faults_are_told,
+    damage_is_marked, misuse_is_told,
 ]
 
 

@@ -24,7 +24,7 @@ OTHER = {'x86_64': 'aarch64', 'aarch64': 'x86_64'}[HERE]
 ELF_MACHINES = {'x86_64': 62, 'aarch64': 183}
 LANGUAGES = [('gcc', 'c', 'c99'), ('g++', 'c++', 'c++98'), ('g++', 'c++', 'c++20')]
 STRICT = ['-Wall', '-Wextra', '-pedantic', '-Werror', '-O2']
-SAMPLES = {name: os.path.join(TOP, 'samples', name) for name in ('two-fields.grib2', 'accident.grib2')}
+SAMPLES = {name: os.path.join(TOP, 'samples', name) for name in ('two-fields.grib2', 'accident.grib2', 'lambert.grib2')}
 # A function, a struct or a constant of ours.
 NAME = r'\b(?:skeptolyr|SKEPTOLYR)_\w+'
 
@@ -369,7 +369,7 @@ target_link_libraries(with_shared PRIVATE skeptolyr::skeptolyr)
 add_executable(with_archive user.c)
 target_link_libraries(with_archive PRIVATE skeptolyr::static)
 '''
-# Prints the size of the grid of the first field on standard input, and where its last point lies.
+# Prints the size of the grid of the first field on standard input, and where its last point lies, in degrees or in kilometres.
 USER = r'''#include <skeptolyr.h>
 #include <stdio.h>
 
@@ -379,16 +379,18 @@ int main(void)
 {
     struct skeptolyr_field field;
     struct skeptolyr_position position;
+    struct skeptolyr_sheet_place place;
     size_t file_len = fread(file, 1, sizeof file, stdin);
     if (skeptolyr_is_refusal(skeptolyr_describe_field(file, file_len, 0, &field)))
         return 1;
-    if (skeptolyr_is_refusal(skeptolyr_place_point(file, file_len, 0, (size_t)field.points - 1, &position)))
-        return 1;
-    printf("%d x %d, %.2f %.2f\n", (int)field.ni, (int)field.nj, (double)position.latitude / 1e6, (double)position.longitude / 1e6);
+    if (!skeptolyr_is_refusal(skeptolyr_place_point(file, file_len, 0, (size_t)field.points - 1, &position)))
+        printf("%d x %d, %.2f %.2f\n", (int)field.ni, (int)field.nj, (double)position.latitude / 1e6, (double)position.longitude / 1e6);
+    if (!skeptolyr_is_refusal(skeptolyr_sheet_point(file, file_len, 0, (size_t)field.points - 1, &place)))
+        printf("%d x %d, %.0f km and %.0f km\n", (int)field.ni, (int)field.nj, (double)place.right / 1e6, (double)place.down / 1e6);
     return 0;
 }
 '''
-PRINTED = (0, '2 x 2, 35.00 136.00\n', '')
+PRINTED = {'two-fields.grib2': (0, '2 x 2, 35.00 136.00\n', ''), 'lambert.grib2': (0, '82 x 67, 4050 km and 3300 km\n', '')}
 
 
 def cmake(prefix, folder, version):
@@ -401,7 +403,7 @@ def cmake(prefix, folder, version):
 
 
 def built_by_cmake(prefix, folder):
-    """Compiles a program of two functions by CMake, with the shared library and with the archive, and runs it. CMake notes where the shared library is."""
+    """Compiles a program of three functions by CMake, with the shared library and with the archive, and runs it. CMake notes where the shared library is."""
     status, said = cmake(prefix, folder, VERSION)
     done = subprocess.run(['cmake', '--build', os.path.join(folder, 'made')], stdout=subprocess.PIPE, stderr=subprocess.STDOUT, text=True, env=bare())
     if status or done.returncode:
@@ -409,8 +411,9 @@ def built_by_cmake(prefix, folder):
         return
     for name in ('with_shared', 'with_archive'):
         program = os.path.join(folder, 'made', name)
-        if asked([program], 'two-fields.grib2') != PRINTED:
-            yield '%s: expected %s, got %s' % (name, PRINTED, asked([program], 'two-fields.grib2'))
+        for sample, wanted in PRINTED.items():
+            if asked([program], sample) != wanted:
+                yield '%s: expected %s, got %s' % (name, wanted, asked([program], sample))
         if ('libskeptolyr.so.' + MAJOR in needed(program)) != (name == 'with_shared'):
             yield '%s: it needs %s' % (name, needed(program))
 
@@ -640,20 +643,32 @@ def size(kind):
     return sum(size(inner) for inner, _, _ in STRUCTS[kind]) if kind in STRUCTS else 1
 
 
-def members_are_told(scratch):
-    """skeptolyr_describe.3 tells every member of a field with its comment and its place, as many as the header says, and those of the other structs."""
-    text = in_long_lines(scratch, 'share/man/man3/skeptolyr_describe.3')[0].replace('(3)', '')
-    shown, place = ' '.join(text.split()), 0
-    for kind, member, comment in STRUCTS['skeptolyr_field']:
+def members_with_places(name, first):
+    """The members of a struct whose numbers start at a place: what a page says of each, its name with its places, and its comment."""
+    place, found = first, []
+    for kind, member, comment in STRUCTS[name]:
         last = place + size(kind) - 1
-        head = '%s (%d)' % (member, place) if last == place else '%s (%d to %d)' % (member, place, last)
-        if head not in shown or comment.replace('`', '') not in shown:
-            yield 'not told: %s, %s' % (head, comment)
+        found.append(('%s (%d)' % (member, place) if last == place else '%s (%d to %d)' % (member, place, last), comment.replace('`', '')))
         place = last + 1
-    if place != int(re.search(r'^#define SKEPTOLYR_DESCRIPTION (\d+)$', HEADER, re.M).group(1)):
-        yield 'the members are %d numbers' % place
-    for name in sorted(set(STRUCTS) - {'skeptolyr_field'}):
-        told = re.search(r'^ +struct %s\n +(.*)$' % name, text, re.M)
+    return found
+
+
+def constant(name):
+    return int(re.search(r'^#define %s (\d+)$' % name, HEADER, re.M).group(1))
+
+
+def members_are_told(scratch):
+    """skeptolyr_describe.3 tells every member of a field and of a Lambert grid with comment and place, as many as the header says; pages have all others."""
+    text, sheet = (in_long_lines(scratch, 'share/man/man3/skeptolyr_%s.3' % name)[0].replace('(3)', '') for name in ('describe', 'sheet'))
+    shown, of_lambert = ' '.join(text.split()), size('skeptolyr_field') - size('skeptolyr_lambert')
+    for head, comment in members_with_places('skeptolyr_field', 0) + members_with_places('skeptolyr_lambert', of_lambert):
+        if head not in shown or comment not in shown:
+            yield 'not told: %s, %s' % (head, comment)
+    # The numbers of a grid in degrees end before its template, which a Lambert grid has too.
+    if size('skeptolyr_field') != constant('SKEPTOLYR_DESCRIPTION_LAMBERT') or of_lambert - 1 != constant('SKEPTOLYR_DESCRIPTION'):
+        yield 'the members are %d numbers, %d of them before those of a Lambert grid' % (size('skeptolyr_field'), of_lambert)
+    for name in sorted(set(STRUCTS) - {'skeptolyr_field', 'skeptolyr_lambert'}):
+        told = re.search(r'^ +struct %s\n +(.*)$' % name, text + '\n' + sheet, re.M)
         yield from ('struct %s: no %s' % (name, member) for _, member, _ in STRUCTS[name] if not told or not re.search(r'\b%s\b' % member, told.group(1)))
 
 
@@ -700,7 +715,7 @@ def pages_show_what_programs_print(scratch):
     """The pages of the programs show what is printed of samples, word for word; three dots stand for what is left out."""
     folder, programs = os.path.join(scratch, 'samples'), os.path.join(scratch, 'usr', 'bin')
     shutil.copytree(os.path.join(TOP, 'samples'), folder)
-    for name, least in (('skeptolyr', 8), ('skeptolyr-listing', 2)):
+    for name, least in (('skeptolyr', 9), ('skeptolyr-listing', 2)):
         commands = commands_shown(in_long_lines(scratch, 'share/man/man1/%s.1' % name)[0])
         if len(commands) < least:
             yield '%s.1 shows %d commands' % (name, len(commands))

@@ -29,21 +29,41 @@ def are_told_of():
     """samples/README.md has the row of each refusal, and names each file."""
     text = manual.text_of(os.path.join(SAMPLES, 'README.md'))
     rows = re.findall(r'^\| \d+ .*$', text, re.M)
-    return report.judged("the samples' table", [row for row in make.table() if row not in rows] + ['%d rows' % len(rows)] * (len(rows) != 16) + [name for name in MADE if '](%s)' % name not in text])
+    faults = [row for row in make.table() if row not in rows] + ['%d rows' % len(rows)] * (len(rows) != len(make.REFUSALS))
+    return report.judged("the samples' table", faults + [name for name in MADE if '](%s)' % name not in text])
+
+
+def asked(refusal):
+    """Asks the independent reading what the refusal is given for: a place in degrees, or all values."""
+    file = bytes(make.TOO_LONG) if refusal.number == 1 else MADE[refusal.file]
+    room = refusal.room or 1 << 24
+    if refusal.point is not None:
+        reading.place(file, refusal.field, refusal.point)
+    else:
+        reading.decode(file, refusal.field, 0, room, room)
 
 
 def are_read_as_told():
-    """Refusals 1 to 16 are there, each once, and the independent reading gives each."""
-    faults = [] if [refusal.number for refusal in make.REFUSALS] == list(range(1, 17)) else ['not each of 1 to 16']
+    """Refusals 1 to 17 and 20 are there, each once, and the independent reading gives each."""
+    faults = [] if [refusal.number for refusal in make.REFUSALS] == [*range(1, 18), 20] else ['not each of 1 to 17 and 20']
     for refusal in make.REFUSALS:
-        file = bytes(make.TOO_LONG) if refusal.number == 1 else MADE[refusal.file]
-        room = refusal.room or 1 << 24
         try:
-            reading.decode(file, refusal.field, 0, room, room)
+            asked(refusal)
             faults.append('%s is not refused' % refusal.file)
         except reading.Refused as refused:
             faults += ['%s: %s' % (refusal.file, refused)] if (refused.number, refused.place) != (refusal.number, refusal.place) else []
     return report.judged('the samples in the independent reading', faults)
+
+
+def places_are_told():
+    """Where the last points lie, as samples/README.md tells it, is where the independent reading places them."""
+    text = manual.text_of(os.path.join(SAMPLES, 'README.md'))
+    islands, lambert = (reading.describe(MADE[name], 0)['grid'] for name in ('islands.grib2', 'lambert.grib2'))
+    degrees = reading.place(MADE['islands.grib2'], 0, islands['ni'] * islands['nj'] - 1)
+    lengths = reading.sheet(MADE['lambert.grib2'], 0, lambert['ni'] * lambert['nj'] - 1)
+    wanted = ['ends at %d.%06d %d.%06d,' % (*divmod(degrees[0], 10 ** 6), *divmod(degrees[1], 10 ** 6))]
+    wanted += ['ends at %d.%03d %d.%03d,' % (*divmod(lengths[0], 1000), *divmod(lengths[1], 1000))]
+    return report.judged("the last points of the samples' table", [words for words in wanted if words not in text])
 
 
 # ---- the programs
@@ -71,7 +91,7 @@ def is_refused(skeptolyr, refusal, folder):
 def are_drawn(skeptolyr, folder):
     """The samples that are not refused are drawn, each field of them."""
     faults = []
-    for name, field in (('two-fields.grib2', '0'), ('two-fields.grib2', '1'), ('islands.grib2', '0')):
+    for name, field in (('two-fields.grib2', '0'), ('two-fields.grib2', '1'), ('islands.grib2', '0'), ('lambert.grib2', '0')):
         status, _, said = run(*skeptolyr, 'draw', os.path.join(SAMPLES, name), field, os.path.join(folder, name + field))
         faults += ['%s, field %s: %d %s' % (name, field, status, said)] * (status != 0 or said != '' or not os.path.exists(os.path.join(folder, name + field)))
     return report.judged('the samples that are drawn', faults)
@@ -84,11 +104,17 @@ def sees_full_disk(numbers, path):
     return done.returncode == 2 and b'could be printed' in done.stderr
 
 
+def numbers_of(name):
+    """What the program numbers is to print of the first field of a sample whose points are all present."""
+    return ''.join('%d %.15g\n' % pair for pair in enumerate(reading.decode(MADE[name], 0, 0, 1 << 24, 1 << 24)[3]))
+
+
 def are_printed():
     """The program numbers prints a field's values, and says why it does not."""
     numbers = archive.program('skeptolyr', 'examples/numbers.c')
     two = os.path.join(SAMPLES, 'two-fields.grib2')
     wanted = [
+        ((os.path.join(SAMPLES, 'lambert.grib2'), '0'), (0, numbers_of('lambert.grib2'), '')),
         ((two, '0'), (0, '0 291.2\n1 missing\n2 274.8\n3 missing\n', '')), ((two, '1'), (0, '0 0.5\n1 missing\n2 0.7\n3 missing\n', '')),
         ((two, '2'), (1, '', manual.refused(8, 0) + '\n')), ((os.path.join(SAMPLES, 'accident.grib2'), '0'), (1, '', manual.refused(7, 0) + '\n'))]
     faults = ['%s: %s' % (words[1], run(*numbers, *words)) for words, want in wanted if run(*numbers, *words) != want]
@@ -98,13 +124,51 @@ def are_printed():
     return report.judged('the program numbers', faults)
 
 
+# Asks about a field of the file on standard input: for its values, in arrays with so little room, or for the place in degrees of a point.
+ASKS = r'''
+#include <skeptolyr.h>
+#include <stdio.h>
+#include <stdlib.h>
+
+static uint8_t file[65536], presence[65536];
+static double values[65536];
+
+int main(int argc, char **argv)
+{
+    struct skeptolyr_position position;
+    size_t length = fread(file, 1, sizeof file, stdin), field = argc > 3 ? strtoul(argv[2], NULL, 10) : 0, number = argc > 3 ? strtoul(argv[3], NULL, 10) : 0;
+    uint64_t answer = argc > 3 && argv[1][0] == 'p' ? skeptolyr_place_point(file, length, field, number, &position)
+                                                    : skeptolyr_decode(file, length, field, 0, values, number, presence, number);
+    if (skeptolyr_is_refusal(answer))
+        printf("refused %u at %u. %s\n", (unsigned)skeptolyr_refusal_number(answer), (unsigned)skeptolyr_refusal_place(answer),
+               skeptolyr_refusal_text(skeptolyr_refusal_number(answer)));
+    return 0;
+}
+'''
+
+
+def are_given_to_c(folder):
+    """What the command never asks, a program in C does: it gets refusals 15, 17 and 20 for the samples that the table names, in the header's words."""
+    source, faults = os.path.join(folder, 'asks.c'), []
+    with open(source, 'w', encoding='utf-8') as out:
+        out.write(ASKS)
+    program, by_c = archive.program('skeptolyr', source), [refusal for refusal in make.REFUSALS if not refusal.is_for_commands()]
+    sentences = {number: sentence for _, number, _, sentence in manual.refusals()}
+    for refusal in by_c:
+        words = ['decode', str(refusal.field), str(refusal.room)] if refusal.room else ['place', str(refusal.field), str(refusal.point)]
+        done = subprocess.run([*program, *words], input=MADE[refusal.file], stdout=subprocess.PIPE)
+        if done.stdout.decode() != 'refused %d at %d. %s\n' % (refusal.number, refusal.place, sentences[refusal.number]):
+            faults.append('%d: %r' % (refusal.number, done.stdout))
+    faults += [] if [refusal.number for refusal in by_c] == [15, 17, 20] else ['they are %s' % by_c]
+    return report.judged('refusals that a program in C gets', faults)
+
+
 def main():
     skeptolyr = archive.skeptolyr()
-    results = [are_as_made(), are_told_of(), are_read_as_told(), are_printed()]
+    results = [are_as_made(), are_told_of(), are_read_as_told(), places_are_told(), are_printed()]
     with tempfile.TemporaryDirectory() as folder:
-        results.append(are_drawn(skeptolyr, folder))
-        # The command always has room for a field, so that no refusal 15 is seen there.
-        results += [is_refused(skeptolyr, refusal, folder) for refusal in make.REFUSALS if not refusal.room]
+        results += [are_given_to_c(folder), are_drawn(skeptolyr, folder)]
+        results += [is_refused(skeptolyr, refusal, folder) for refusal in make.REFUSALS if refusal.is_for_commands()]
     return report.ended(results)
 
 

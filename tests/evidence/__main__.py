@@ -6,24 +6,32 @@
 """
 import array
 import concurrent.futures
+import functools
 import os
 import platform
+import random
 import re
 import shutil
+import struct
 import subprocess
 import sys
 import time
 
+from samples import shapes
 from tests import fields
-from tests.evidence import encoder, rules
+from tests.evidence import cone, encoder, rules
 from tests.evidence.faults import FAULTS
-from tests.help import SEED as SEED_OF_TESTS, report
+from tests.help import SEED as SEED_OF_TESTS, grib, lending, report
 from tests.help.faulty import FAULTS as FAULTY, RENAMED
 from tools import TOP, archive, debian
 
 BUILT = os.path.join(TOP, 'target', 'evidence')
 RULES = os.path.join(BUILT, 'rules')
 RECORD = os.path.join(BUILT, 'answers')
+# The Agency's own Lambert field at its full size, and the integers that are packed into it.
+FULL = os.path.join(BUILT, 'full.grib2')
+FULL_INTEGERS = os.path.join(BUILT, 'full.integers')
+FULL_SEED, FULL_LARGEST = 3, 16383
 SEED = str(SEED_OF_TESTS)
 CASES = '1000000'
 LISTINGS = '600'
@@ -63,7 +71,15 @@ def evidence():
     """The program that makes the cases and compares the answers, over the independent decoder."""
     decoder = built('libreference.rlib', *RUST, '-O', '--crate-type', 'rlib', '--crate-name', 'reference', 'tests/reference/lib.rs')
     rules.write(RULES)
+    write_full()
     return built('evidence', *RUST, '-O', '--extern', 'reference=' + decoder, 'tests/evidence/main.rs')
+
+
+def write_full():
+    """Writes the Agency's own Lambert field of 817 x 661 points, and the integers that are packed into it, as samples/shapes.py makes them."""
+    with open(FULL, 'wb') as file, open(FULL_INTEGERS, 'wb') as integers:
+        file.write(shapes.msm(seed=FULL_SEED, grid=shapes.cone))
+        integers.write(b''.join(grib.number(x, 4) for x in shapes.smooth(random.Random(FULL_SEED), cone.NI, cone.NJ, FULL_LARGEST)))
 
 
 def native(crate, source):
@@ -74,6 +90,7 @@ def native(crate, source):
     return [built(crate + '.native', *COMPILER, source, code)]
 
 
+@functools.cache
 def lenders():
     """The commands of the program that calls proved code from C, by what it calls."""
     found = {'the archive that users link': archive.program('skeptolyr', LENDER)}
@@ -104,12 +121,12 @@ def decoder_tests():
     return [True] * passed + [False] * failed
 
 
-def compared(program):
-    """Does the corpus go through every lender there is? It is one test, so that there are as many where the archive is native code."""
+def compared(program, *words):
+    """Does every lender there is answer as the independent decoder does? It is one test, so that there are as many where the archive is native code."""
     results = []
     for name, lender in lenders().items():
         print('%s, against the independent decoder:' % name, flush=True)
-        results.append(asked(program, 'compare', RULES, SEED, CASES, RECORD, '--', *lender))
+        results.append(asked(program, *words, '--', *lender))
     return all(results)
 
 
@@ -204,21 +221,53 @@ def seas_lie_alike():
     return most < 0.501
 
 
+def sheet_places(asked):
+    """Where the archive puts points on the sheet of the Agency's cone: how far to the right of the first point and how far below it, in metres."""
+    lender, file, before, lent, size = archive.program('skeptolyr', LENDER), cone.downward(), None, [], 8 * 3
+    for n in asked:
+        lent.append(lending.question(lending.SHEET, file, before, 0, n, lengths=(2, 0), written=2))
+        before = file
+    got = report.answers(lender, b''.join(lent))
+    return [tuple(number / 1000 for number in struct.unpack('<2q', got[at + 8:at + size])) for at in range(0, len(got), size)]
+
+
+def degrees_by_eccodes(reader, file):
+    """The latitude and the longitude of each point of a file's one field, as ecCodes tells them."""
+    found = array.array('d', subprocess.run([reader], input=file, stdout=subprocess.PIPE, check=True).stdout)
+    return list(zip(found[:len(found) // 2], found[len(found) // 2:]))
+
+
+def sheet_lies_alike():
+    """Does the archive put the columns of the first row, the rows of the first column and points between where ecCodes has them? ecCodes takes the first point
+    for the lower left one, whatever octet 65 says, so it is told of the same points from below. A millionth of a degree is up to a quarter of a metre."""
+    reader, points = built('places', *COMPILER, 'tests/peers/places.c', '-leccodes'), cone.NI * cone.NJ
+    asked = [*range(cone.NI), *range(0, points, cone.NI), *range(0, points, 9973), points - 1]
+    upward, known = degrees_by_eccodes(reader, cone.upward()), degrees_by_eccodes(reader, cone.downward())
+    told = [cone.from_first(*upward[cone.from_below(n)]) for n in asked]
+    ours = sheet_places(asked)
+    most = max((abs(one - other) for place, own in zip(told, ours, strict=True) for one, other in zip(place, own)), default=0)
+    shows = 'shows' if known[points - 1][0] > known[0][0] else 'does not show'
+    print('  known: it takes the first point for the lower left one where rows go downward: this %s' % shows)
+    print('%d points of a Lambert grid as ecCodes places them: at most %.3f metres apart' % (len(asked), most), flush=True)
+    return bool(ours) and most < 0.25
+
+
 def eccodes(program):
-    """Valid files as ecCodes reads them, and the places of the seas. Where it cannot be had, that is told as skipped."""
+    """Valid files as ecCodes reads them, and the places of the seas and of a Lambert grid. Where it cannot be had, each of these is told as skipped."""
     if not debian.has_header('eccodes.h'):
         debian.install(['libeccodes-dev'])
     if not debian.has_header('eccodes.h'):
-        print(report.Skipped('valid files as ecCodes reads them', "Debian's package libeccodes-dev could not be installed"))
+        for what in ('valid files as ecCodes reads them', 'the seas as ecCodes places them', 'a Lambert grid as ecCodes places it'):
+            print(report.Skipped(what, "Debian's package libeccodes-dev could not be installed"))
         return []
     reader = built('eccodes', *COMPILER, 'tests/peers/eccodes.c', '-leccodes')
-    return [asked(program, 'eccodes', SEED, VALID_FILES, '--', reader), seas_lie_alike()]
+    return [asked(program, 'eccodes', FULL, SEED, VALID_FILES, '--', reader), seas_lie_alike(), sheet_lies_alike()]
 
 
 def whole():
     program = evidence()
-    results = decoder_tests() + [asked(program, 'told', RULES), compared(program)]
-    results += [faults_found(program), mutants()]
+    results = decoder_tests() + [asked(program, 'told', RULES), compared(program, 'compare', RULES, SEED, CASES, RECORD)]
+    results += [faults_found(program), mutants(), compared(program, 'full', FULL, FULL_INTEGERS)]
     listing = program_of_kit('listing')
     results += [asked(program, 'listing', SEED, LISTINGS, '--', *listing), samples_listed(listing)]
     results.append(asked(program, 'rebuild', SEED, REBUILDS, '--', *program_of_kit('tests_ask')))

@@ -26,7 +26,7 @@ impl Answer {
         Answer { octets, written: Some(points) }
     }
 
-    /// The answer of describe or place, with the run as it lies in memory.
+    /// The answer of describe, place or sheet, with the run as it lies in memory.
     pub fn of_numbers(put: u64, run: &[i64]) -> Answer {
         let mut octets = put.to_be_bytes().to_vec();
         octets.extend(run.iter().flat_map(|number| number.to_ne_bytes()));
@@ -92,6 +92,10 @@ macro_rules! answers_of {
                 Question::Place { k, n, length } => {
                     let mut position = $crate::answers::untouched_numbers(length);
                     $decoder::place_into(file, k, n, &mut position).map(|put| Answer::of_numbers(put, &position))
+                }
+                Question::Sheet { k, n, length } => {
+                    let mut sheet_place = $crate::answers::untouched_numbers(length);
+                    $decoder::sheet_into(file, k, n, &mut sheet_place).map(|put| Answer::of_numbers(put, &sheet_place))
                 }
                 Question::Decode { k, start, values_length, presence_length } => {
                     let (mut values, mut presence) = $crate::answers::untouched_runs(values_length, presence_length);

@@ -11,6 +11,7 @@ pub enum Question {
     Check,
     Describe { k: u64, length: u64 },
     Place { k: u64, n: u64, length: u64 },
+    Sheet { k: u64, n: u64, length: u64 },
     Decode { k: u64, start: u64, values_length: u64, presence_length: u64 },
 }
 
@@ -21,9 +22,11 @@ pub struct Case {
     pub question: Question,
 }
 
-/// How many numbers describe a field, and how many tell a place.
+/// How many numbers describe a field, on a grid in degrees and on a Lambert grid, and how many tell a place, in degrees and on a sheet.
 pub const DESCRIPTION: u64 = 53;
+pub const DESCRIPTION_LAMBERT: u64 = 60;
 pub const POSITION: u64 = 2;
+pub const SHEET_PLACE: u64 = 2;
 /// The most points of a field that runs are lent for. A damaged file may state many more: then the runs are too short.
 const MOST_POINTS: u64 = 4_000;
 
@@ -47,13 +50,14 @@ fn whole(k: u64, points: u64) -> Question {
     Question::Decode { k, start: 2, values_length: fitting + 1, presence_length: fitting + 2 }
 }
 
-/// Describe and place, with a number to spare in the run.
+/// Describe, with a number to spare in the run even where the grid is a Lambert grid.
 pub fn described(k: u64) -> Question {
-    Question::Describe { k, length: DESCRIPTION + 1 }
+    Question::Describe { k, length: DESCRIPTION_LAMBERT + 1 }
 }
 
-pub fn placed(k: u64, n: u64) -> Question {
-    Question::Place { k, n, length: POSITION + 1 }
+/// Where a point lies, in degrees and on a sheet, of which a grid has one: with a number to spare in each run.
+pub fn placed(k: u64, n: u64) -> [Question; 2] {
+    [Question::Place { k, n, length: POSITION + 1 }, Question::Sheet { k, n, length: SHEET_PLACE + 1 }]
 }
 
 /// Check, and decode of the field whose turn it is.
@@ -64,7 +68,7 @@ fn check_and_decode(points: &[u64], turn: usize) -> Vec<Question> {
 
 fn whole_file(file: &[u8], take: &mut dyn FnMut(Case) -> bool) -> bool {
     let fields = (0..).zip(point_counts(file));
-    let each = fields.flat_map(|(k, points)| vec![described(k), whole(k, points), placed(k, points - 1)]);
+    let each = fields.flat_map(|(k, points)| [described(k), whole(k, points)].into_iter().chain(placed(k, points - 1)));
     ask("small base", &Rc::new(file.to_vec()), std::iter::once(Question::Check).chain(each).collect(), take)
 }
 
@@ -73,11 +77,12 @@ fn prefixes(file: &[u8], take: &mut dyn FnMut(Case) -> bool) -> bool {
     (0..file.len()).all(|length| ask("prefix", &Rc::new(file[..length].to_vec()), check_and_decode(&points, length), take))
 }
 
-/// The length of a run for a description: in one turn of eight it has no room, and in the others it has.
+/// The length of a run for a description: in one turn of eight it has no room, in another only for a grid in degrees, and in the others for any.
 pub fn length_in_turn(turn: u64) -> u64 {
     match turn % 8 {
         0 => turn / 8 % DESCRIPTION,
-        spare => DESCRIPTION + spare - 1,
+        1 => DESCRIPTION + turn / 8 % (DESCRIPTION_LAMBERT - DESCRIPTION),
+        spare => DESCRIPTION_LAMBERT + (spare - 2) % 5,
     }
 }
 
@@ -120,21 +125,24 @@ fn numbers_past(points: &[u64]) -> Vec<Question> {
     let fields = points.len() as u64;
     let mut found = Vec::new();
     for k in (0..fields + 3).chain(far()) {
-        let whole = whole(k, points[0]);
-        found.extend(vec![described(k), whole, placed(k, 0)]);
+        found.extend([described(k), whole(k, points[0])]);
+        found.extend(placed(k, 0));
     }
     for (k, points) in (0..).zip(points) {
         let near = (0..points + 3).chain(far());
-        found.extend(near.map(|n| placed(k, n)));
+        found.extend(near.flat_map(|n| placed(k, n)));
     }
     found
 }
 
-/// Describe and place of field k, and of points at and past their count, in runs of every length on either side of what is needed.
+/// Describe, place and sheet of field k, and of points at and past their count, in runs of every length on either side of what is needed.
 fn lengths_of_numbers(k: u64, points: u64) -> Vec<Question> {
-    let numbers = [0, points - 1, points, u64::MAX];
-    let places = numbers.iter().flat_map(|n| (0..=POSITION + 3).map(move |length| Question::Place { k, n: *n, length }));
-    (0..=DESCRIPTION + 7).map(|length| Question::Describe { k, length }).chain(places).collect()
+    let mut found: Vec<Question> = (0..=DESCRIPTION_LAMBERT + 7).map(|length| Question::Describe { k, length }).collect();
+    for n in [0, points - 1, points, u64::MAX] {
+        found.extend((0..=POSITION + 3).map(|length| Question::Place { k, n, length }));
+        found.extend((0..=SHEET_PLACE + 3).map(|length| Question::Sheet { k, n, length }));
+    }
+    found
 }
 
 fn limits_of_questions(file: &[u8], take: &mut dyn FnMut(Case) -> bool) -> bool {
@@ -187,20 +195,23 @@ fn length_for(random: &mut Random, numbers: u64) -> u64 {
     }
 }
 
-fn place(random: &mut Random, k: u64, points: u64) -> Question {
-    let n = match random.below(12) {
+/// The number of a point: any, the last, one past it, or one far past it.
+fn point(random: &mut Random, points: u64) -> u64 {
+    match random.below(12) {
         0 => *random.choose(&far()),
         1 => *random.choose(&[points, points + 1]),
         2 => points.saturating_sub(1),
         _ => random.below(points.max(1)),
-    };
-    Question::Place { k, n, length: length_for(random, POSITION) }
+    }
 }
 
-/// All questions about field k.
+/// All questions about field k. Of the two kinds of grid it has one, and the run for its description is of a length for either.
 fn about_field(random: &mut Random, k: u64, points: u64) -> Vec<Question> {
-    let description = Question::Describe { k, length: length_for(random, DESCRIPTION) };
-    vec![description, decode(random, k, points), place(random, k, points)]
+    let needed = *random.choose(&[DESCRIPTION, DESCRIPTION_LAMBERT]);
+    let description = Question::Describe { k, length: length_for(random, needed) };
+    let place = Question::Place { k, n: point(random, points), length: length_for(random, POSITION) };
+    let sheet = Question::Sheet { k, n: point(random, points), length: length_for(random, SHEET_PLACE) };
+    vec![description, decode(random, k, points), place, sheet]
 }
 
 /// All questions about every field, and about one past the last or far past it.

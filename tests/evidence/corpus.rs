@@ -50,6 +50,7 @@ pub fn shown(question: &Question) -> String {
         Question::Check => "check".to_string(),
         Question::Describe { k, length } => format!("describe field {} in {} numbers", k, length),
         Question::Place { k, n, length } => format!("place of point {} in field {} in {} numbers", n, k, length),
+        Question::Sheet { k, n, length } => format!("place of point {} in field {} on its sheet in {} numbers", n, k, length),
         Question::Decode { k, start, values_length, presence_length } => {
             format!("decode field {} from {} on into {} doubles and {} marks", k, start, values_length, presence_length)
         }

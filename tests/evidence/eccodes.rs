@@ -1,11 +1,12 @@
 //! Valid files as ecCodes reads them, against the independent decoder: how many fields, what each is, which points are present, and each value within
-//! what the rules allow. Where ecCodes is known to differ, what it is known for is left out, counted by name, and counted again where it does
-//! differ; the rest of the field is compared.
+//! what the rules allow. The first file is one at the Agency's full size, and the others come from a seed. Where ecCodes is known to differ, what it is
+//! known for is left out, counted by name, and counted again where it does differ; the rest of the field is compared.
 use crate::answers::read_number;
 use crate::files::valid;
 use crate::random::Random;
-use reference::{Description, Level, Product};
+use reference::{Description, Grid, GridKind, Level, Product};
 use std::collections::BTreeMap;
+use std::fs;
 use std::io::{self, BufReader, Read, Write};
 use std::process::{Command, Stdio};
 use std::thread;
@@ -18,12 +19,12 @@ const SURFACE_WITH_MORE: u8 = 150;
 const ALL_ONES: u32 = u32::MAX;
 
 /// What ecCodes tells of a field: how many numbers, and which of them are what is left out by name.
-const NUMBERS: usize = 33;
-const DI: usize = 13;
-const DJ: usize = 14;
-const N: usize = 26;
-const BITMAP_PRESENT: usize = 27;
-const R: usize = 29;
+const NUMBERS: usize = 43;
+const DI: usize = 16;
+const DJ: usize = 17;
+const N: usize = 36;
+const BITMAP_PRESENT: usize = 37;
+const R: usize = 39;
 
 struct Told {
     numbers: Vec<u64>,
@@ -48,15 +49,27 @@ fn fields(from: &mut impl Read) -> io::Result<Result<Vec<Told>, u64>> {
     }
 }
 
+/// The numbers that ecCodes has to tell of a grid, in its order. Those that only the other kind of grid has are none, and the scanning mode is 0.
+fn numbers_of_grid(grid: &Grid) -> Vec<u64> {
+    let (template, last, steps, cone, lengths, cutting_latitudes) = match grid.kind {
+        GridKind::Degrees(own) => (0, [own.last.latitude as u64, own.last.longitude.into()], [own.di, own.dj].map(u64::from), [NONE; 2], [NONE; 2], [NONE; 2]),
+        GridKind::Lambert(own) => {
+            let (cone, lengths) = ([own.stated_latitude as u64, own.upright_meridian.into()], [own.dx, own.dy].map(u64::from));
+            (30, [NONE; 2], [NONE; 2], cone, lengths, own.cutting_latitudes.map(|latitude| latitude as u64))
+        }
+    };
+    let sizes = [template, u64::from(grid.earth_code), u64::from(grid.radius), u64::from(grid.ni), u64::from(grid.nj)];
+    let first = [grid.first.latitude as u64, u64::from(grid.first.longitude)];
+    [&sizes[..], &first, &last, &steps, &cone, &lengths, &cutting_latitudes, &[0]].concat()
+}
+
 /// The numbers that ecCodes has to tell of a field, in its order. A validity time that it tells is the end of an interval, and R is +0 where it is -0.
 fn numbers_of(described: &Description) -> Vec<u64> {
-    let (grid, time) = (&described.grid, described.listed_time());
+    let time = described.listed_time();
     let (factor, scaled) = described.level.map_or((NONE, NONE), |Level { factor, scaled_level }| (factor as u64, u64::from(scaled_level)));
     let mut numbers = vec![u64::from(described.discipline)];
     numbers.extend(described.reference_time.numbers());
-    numbers.extend([u64::from(grid.ni), u64::from(grid.nj)]);
-    numbers.extend([grid.first.latitude as u64, u64::from(grid.first.longitude), grid.last.latitude as u64, u64::from(grid.last.longitude)]);
-    numbers.extend([u64::from(grid.di), u64::from(grid.dj)]);
+    numbers.extend(numbers_of_grid(&described.grid));
     numbers.extend([described.category, described.parameter, described.first_surface_type].map(u64::from));
     numbers.extend([factor, scaled, if described.product == Product::Instant { 0 } else { 8 }]);
     numbers.extend([time.year, time.month, time.day, time.hour, time.minute]);
@@ -98,7 +111,7 @@ fn left_out(described: &Description, before: Option<u8>) -> LeftOut {
         found.names.push("D 9, 10 or 11: its values are within 2^-50, and not all within 2^-51");
         found.doubled = true;
     }
-    if described.grid.di == ALL_ONES || described.grid.dj == ALL_ONES {
+    if matches!(described.grid.kind, GridKind::Degrees(own) if own.di == ALL_ONES || own.dj == ALL_ONES) {
         found.names.push("Di or Dj all ones: it tells 2,147,483,647");
         found.numbers.extend([DI, DJ]);
     }
@@ -143,12 +156,13 @@ fn differences(told: &Told, file: &[u8], k: u64, described: &Description, left_o
     (found, !known.is_empty() || (left_out.presence && presence_differs) || (left_out.values && values_differ) || strictly)
 }
 
-/// What was compared so far; by name, how many fields a known difference concerns, how many of them it alone concerns, and in how many of these it
-/// shows.
+/// What was compared so far, and how many of the fields are on Lambert grids; by name, how many fields a known difference concerns, how many of them it
+/// alone concerns, and in how many of these it shows.
 #[derive(Default)]
 struct Tally {
     files: u64,
     fields: u64,
+    on_lambert: u64,
     points: u64,
     wrong: u64,
     known: BTreeMap<&'static str, (u64, u64, u64)>,
@@ -205,6 +219,7 @@ fn compare(file: &[u8], told: Result<Vec<Told>, u64>, name: &str, tally: &mut Ta
         let left_out = left_out(description, *before);
         let (found, shows) = differences(told, file, k, description, &left_out);
         tally.fields += 1;
+        tally.on_lambert += u64::from(matches!(description.grid.kind, GridKind::Lambert(_)));
         tally.points += told.values.len() as u64;
         left_out.names.iter().for_each(|known| tally.know(known, left_out.names.len() == 1, shows));
         if !found.is_empty() {
@@ -213,23 +228,27 @@ fn compare(file: &[u8], told: Result<Vec<Told>, u64>, name: &str, tally: &mut Ta
     }
 }
 
-/// So many valid files of a seed, through the program that calls ecCodes.
-pub fn eccodes(seed: u64, count: u64, command: &[String]) -> io::Result<bool> {
+/// A file at full size and so many valid files of a seed, through the program that calls ecCodes.
+pub fn eccodes(full: &str, seed: u64, count: u64, command: &[String]) -> io::Result<bool> {
     let random = &mut Random::new(seed);
-    let files: Vec<Vec<u8>> = (0..count).map(|_| valid(random)).collect();
+    let mut files = vec![fs::read(full)?];
+    files.extend((0..count).map(|_| valid(random)));
     let mut process = Command::new(&command[0]).args(&command[1..]).stdin(Stdio::piped()).stdout(Stdio::piped()).stderr(Stdio::null()).spawn()?;
     let (mut input, mut output) = (process.stdin.take().unwrap(), BufReader::new(process.stdout.take().unwrap()));
     let framed: Vec<u8> = files.iter().flat_map(|file| [&(file.len() as u64).to_be_bytes()[..], file].concat()).collect();
     let writing = thread::spawn(move || input.write_all(&framed));
     let mut tally = Tally::default();
     for (index, file) in files.iter().enumerate() {
-        compare(file, fields(&mut output)?, &format!("file {} of seed {}", index, seed), &mut tally);
+        let name = if index == 0 { full.to_string() } else { format!("file {} of seed {}", index - 1, seed) };
+        compare(file, fields(&mut output)?, &name, &mut tally);
     }
     let written = writing.join().expect("the writing thread");
     let ended = process.wait()?;
     for (name, (concerned, alone, shown)) in &tally.known {
         println!("  known: {}: {} times, {} of them alone, and in {} of these it shows", name, concerned, alone, shown);
     }
-    println!("seed {}: {} valid files, {} fields, {} points against ecCodes, {} differ otherwise", seed, tally.files, tally.fields, tally.points, tally.wrong);
-    Ok(written.is_ok() && ended.success() && tally.wrong == 0 && tally.fields > 0)
+    let Tally { files, fields, on_lambert, points, wrong, .. } = tally;
+    println!("seed {}: {} valid files, {} fields, {} of them on Lambert grids, against ecCodes", seed, files, fields, on_lambert);
+    println!("seed {}: {} points, {} fields differ otherwise", seed, points, wrong);
+    Ok(written.is_ok() && ended.success() && wrong == 0 && on_lambert > 0 && fields > on_lambert)
 }

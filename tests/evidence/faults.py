@@ -1,9 +1,16 @@
 """Faults for copies of the independent decoder, one at a time: what is wrong, the file, what stands there, and what the copy has in its place."""
 
 DESCRIBED, PLACED = 'put_numbers(&describe(file, k)?.numbers(), numbers)', 'let (latitude, longitude) = place(file, k, n)?;'
+ON_SHEET = 'let (right, down) = sheet(file, k, n)?;'
 PUT = 'run[..numbers.len()].copy_from_slice(numbers);'
-SPAN_EAST, SPAN_SOUTH = 'span_east(self.first, self.last)', 'self.first.latitude - self.last.latitude'
+SPAN_EAST, SPAN_SOUTH = 'span_east(self.first, degrees.last)', 'self.first.latitude - degrees.last.latitude'
 EAST, SOUTH = 'distance(%s, column, self.ni)' % SPAN_EAST, 'distance(%s, row, self.nj)' % SPAN_SOUTH
+# What place and sheet answer for a grid of the other kind, the column and the row of a point, and the lengths and the place of a point on the sheet.
+OTHER = ' => Err(Refusal::without_place(20)),'
+NOT_DEGREES, NOT_LAMBERT, FOUND = 'GridKind::Lambert(_)' + OTHER, 'GridKind::Degrees(_)' + OTHER, 'column_and_row(&grid, n)'
+LENGTHS, ON_IT = '(column * u64::from(self.dx), row * u64::from(self.dy))', '(right as i64, down as i64)'
+DX, DY = 'require((1..=LARGEST_31_BITS).contains(&dx))?;', 'require((1..=LARGEST_31_BITS).contains(&dy))?;'
+OF_LAMBERT = '[30, self.stated_latitude, i64::from(self.upright_meridian), dx, dy, cutting, other_cutting]'
 # Refuses a run that has no room for so many numbers.
 NO_ROOM = 'if %s.len() < %d {\n        return Err(Refusal::without_place(15));\n    }\n    '
 
@@ -25,7 +32,7 @@ FAULTS = [
     ('a section 6 of five octets is taken for a bitmap', 'tiling.rs', 'number == 6 && section.length() >= 6 &&', 'number == 6 &&'),
     ('the last field answers for those behind it', 'tiling.rs', 'if index == k', 'if index <= k'),
     ('the discipline is the octet before it', 'tiling.rs', 'file[start + 6]', 'file[start + 5]'),
-    # ---- sections 1, 3 and 4
+    # ---- sections 1 and 3
     ('the centre is one octet', 'sections.rs', 'section.unsigned(6, 7) == 34', 'section.octet(7) == 34'),
     ('status 2 is taken', 'sections.rs', 'status <= 1', 'status <= 2'),
     ('Ni may be 65,536', 'sections.rs', '(1..=65_535).contains(&ni)', '(1..=65_536).contains(&ni)'),
@@ -38,6 +45,35 @@ FAULTS = [
     ('the tolerance is one more', 'sections.rs', '.abs() <= steps', '.abs() <= steps + 1'),
     ('the first latitude may be below the last', 'sections.rs', 'require(first.latitude >= last.latitude)?;', ''),
     ('the scanning mode is not judged', 'sections.rs', 'section.octet(55) == 0x30 && ', ''),
+    # ---- Lambert grids
+    ('Lambert grids are not read', 'sections.rs', '(81, 30) => lambert_grid(section),', ''),
+    ('a section 3 of 72 octets is taken for template 30', 'sections.rs', '(81, 30)', '(72 | 81, 30)'),
+    ('a section 3 of 81 octets is taken for template 0', 'sections.rs', '(72, 0)', '(72 | 81, 0)'),
+    ('template 30 may have octets behind its last', 'sections.rs', '(81, 30)', '(81.., 30)'),
+    ('template 30 may lack its last octet', 'sections.rs', '(81, 30)', '(80 | 81, 30)'),
+    ('the template of a grid is one octet', 'sections.rs', 'section.unsigned(13, 14)', 'u64::from(section.octet(14))'),
+    ('octet 47 of a Lambert grid is not judged', 'sections.rs', 'require(section.octet(47) == 0x08)?;', ''),
+    ('octet 64 of a Lambert grid is not judged', 'sections.rs', 'require(section.octet(64) == 0)?;', ''),
+    ('octet 65 of a Lambert grid is not judged', 'sections.rs', 'require(section.octet(65) == 0)?;', ''),
+    ('octets 74 to 81 are judged', 'sections.rs', 'require(section.octet(65) == 0)?;',
+     'require(section.octet(65) == 0 && section.unsigned(74, 81) == u64::MAX)?;'),
+    ('the first point of a Lambert grid is looked for where another grid has it', 'sections.rs', 'grid_point(section, 39)?', 'grid_point(section, 47)?'),
+    ('the first latitude of a Lambert grid is not judged', 'sections.rs', 'grid_point(section, 39)?',
+     'GridPoint { latitude: section.sign_and_size(39, 42), longitude: longitude(section, 43)? }'),
+    ('the first longitude of a Lambert grid is not judged', 'sections.rs', 'grid_point(section, 39)?',
+     'GridPoint { latitude: latitude(section, 39)?, longitude: section.unsigned(43, 46) as u32 }'),
+    ('the latitude of the stated lengths is not judged', 'sections.rs', 'latitude(section, 48)?', 'section.sign_and_size(48, 51)'),
+    ('the upright meridian is not judged', 'sections.rs', 'longitude(section, 52)?', 'section.unsigned(52, 55) as u32'),
+    ('the first cutting latitude is not judged', 'sections.rs', 'latitude(section, 66)?', 'section.sign_and_size(66, 69)'),
+    ('the second cutting latitude is not judged', 'sections.rs', 'latitude(section, 70)?', 'section.sign_and_size(70, 73)'),
+    ('the cutting latitudes are judged by their order', 'sections.rs', 'let lambert = ', 'require(cutting_latitudes[0] >= cutting_latitudes[1])?;\n    let lambert = '),
+    ('Dx may be 0', 'sections.rs', DX, DX.replace('1..=', '0..=')),
+    ('Dy may be 0', 'sections.rs', DY, DY.replace('1..=', '0..=')),
+    ('Dx may be more than 2,147,483,647', 'sections.rs', DX, DX.replace('LARGEST_31_BITS', 'LARGEST_31_BITS + 1')),
+    ('Dy may be more than 2,147,483,647', 'sections.rs', DY, DY.replace('LARGEST_31_BITS', 'LARGEST_31_BITS + 1')),
+    ('Dx of 1 is refused', 'sections.rs', DX, DX.replace('1..=', '2..=')),
+    ('Dy of 2,147,483,647 is refused', 'sections.rs', DY, DY.replace('1..=', '1..')),
+    # ---- section 4
     ('a missing surface is taken', 'sections.rs', 'require(section.octet(23) != 255)?;', ''),
     ('a factor of 255 is -127', 'sections.rs', '!no_factor && !no_scaled_level', '!no_scaled_level'),
     ('a scaled level may have its top bit set', 'sections.rs', ' && scaled_level <= LARGEST_31_BITS', ''),
@@ -94,7 +130,7 @@ FAULTS = [
     ('N answers in place of the point count', 'lib.rs', 'Ok(field.presence.points as u32)', 'Ok(field.description.n)'),
     ('a point behind the last has a place', 'lib.rs', 'n >= grid.points()', 'n > grid.points()'),
     ('a longitude is not brought below 360 degrees', 'description.rs', ' % FULL_TURN;', ';'),
-    ('longitudes go by steps of Di', 'description.rs', EAST, '(column * u64::from(self.di)) as i64'),
+    ('longitudes go by steps of Di', 'description.rs', EAST, '(column * u64::from(degrees.di)) as i64'),
     ('longitudes are rounded down', 'description.rs', EAST, SPAN_EAST + ' * column as i64 / i64::from(self.ni - 1).max(1)'),
     ('longitudes are worked out from the last column, and halves go west', 'description.rs', EAST,
      SPAN_EAST + ' - ' + EAST.replace('column', 'u64::from(self.ni - 1) - column')),
@@ -102,12 +138,46 @@ FAULTS = [
     ('latitudes are worked out from the last row, and halves go north', 'description.rs', SOUTH,
      SPAN_SOUTH + ' - ' + SOUTH.replace('row', 'u64::from(self.nj - 1) - row')),
     ('rows go north', 'description.rs', 'self.first.latitude - south', 'self.first.latitude + south'),
+    # ---- the sheet
+    ('a Lambert grid has degrees', 'lib.rs', NOT_DEGREES, 'GridKind::Lambert(_) => %s.map(|_| (grid.first.latitude, grid.first.longitude)),' % FOUND),
+    ('a grid in degrees has a sheet', 'lib.rs', NOT_LAMBERT,
+     'GridKind::Degrees(own) => %s.map(|(column, row)| ((column * u64::from(own.di)) as i64, (row * u64::from(own.dj)) as i64)),' % FOUND),
+    ('17 is tried before 20 in degrees', 'lib.rs', NOT_DEGREES, NOT_DEGREES.replace('Err', FOUND + '.and(Err').replace('),', ')),')),
+    ('17 is tried before 20 on a sheet', 'lib.rs', NOT_LAMBERT, NOT_LAMBERT.replace('Err', FOUND + '.and(Err').replace('),', ')),')),
+    ('a Lambert grid is one that is not read, where degrees are asked for', 'lib.rs', NOT_DEGREES, NOT_DEGREES.replace('20', '10')),
+    ('a grid of the other kind is refused at its section', 'lib.rs', NOT_LAMBERT,
+     'GridKind::Degrees(_) => Err(Refusal { number: 20, place: describe(file, k)?.starts.section_3 }),'),
+    ('20 is tried before 9', 'lib.rs', ON_SHEET,
+     'if let Some(Grid { kind: GridKind::Degrees(_), .. }) = sections::grid(tiling::find(file, k)?.sections[3]) {\n'
+     '        return Err(Refusal::without_place(20));\n    }\n    ' + ON_SHEET),
+    ('a short run for a sheet place is refused before all else', 'lib.rs', ON_SHEET, NO_ROOM % ('sheet_place', 2) + ON_SHEET),
+    ('15 is tried before 20', 'lib.rs', ON_SHEET, 'describe(file, k)?;\n    ' + NO_ROOM % ('sheet_place', 2) + ON_SHEET),
+    ('Dx and Dy have changed places on the sheet', 'description.rs', LENGTHS, '(column * u64::from(self.dy), row * u64::from(self.dx))'),
+    ('columns and rows are counted from 1', 'description.rs', LENGTHS, '((column + 1) * u64::from(self.dx), (row + 1) * u64::from(self.dy))'),
+    ('rows go upward on the sheet', 'description.rs', ON_IT, '(right as i64, -(down as i64))'),
+    ('down is told before right', 'description.rs', ON_IT, '(down as i64, right as i64)'),
+    ('a place on the sheet wraps at 32 bits', 'description.rs', ON_IT, '(i64::from(right as u32), i64::from(down as u32))'),
+    ('a place on the sheet is told in metres', 'description.rs', ON_IT, '(right as i64 / 1000, down as i64 / 1000)'),
     # ---- what C is given
     ('latitudes are told by their sizes', 'description.rs', '[self.latitude, i64::from(self.longitude)]', '[self.latitude.abs(), i64::from(self.longitude)]'),
     ('N is told as the point count', 'description.rs', 'numbers.extend([i64::from(self.n),', 'numbers.extend([self.grid.points() as i64,'),
     ('the point count wraps at 16 bits', 'description.rs', 'self.points() as i64]', 'self.points() as u16 as i64]'),
     ('Ni and Nj have changed places', 'description.rs', 'i64::from(self.ni), i64::from(self.nj)', 'i64::from(self.nj), i64::from(self.ni)'),
     ('Di and Dj have changed places', 'description.rs', '[self.di, self.dj].map(i64::from)', '[self.dj, self.di].map(i64::from)'),
+    ('a Lambert grid has 53 numbers', 'description.rs', 'lambert.numbers().to_vec()', 'vec![]'),
+    ('a grid in degrees has 60 numbers', 'description.rs', 'GridKind::Degrees(_) => vec![],', 'GridKind::Degrees(_) => vec![0; 7],'),
+    ('as many numbers of a Lambert grid are put as there is room for', 'lib.rs', DESCRIBED,
+     'let told = describe(file, k)?.numbers();\n    put_numbers(&told[..told.len().min(numbers.len().max(53))], numbers)'),
+    ('a Lambert grid has its first point for its last', 'description.rs', 'GridKind::Lambert(_) => [0; 4],',
+     'GridKind::Lambert(_) => [self.first.latitude, i64::from(self.first.longitude), 0, 0],'),
+    ('Dx and Dy are told as Di and Dj', 'description.rs', 'GridKind::Lambert(_) => [0; 4],', 'GridKind::Lambert(own) => [0, 0, own.dx.into(), own.dy.into()],'),
+    ('the template of a Lambert grid is told as 0', 'description.rs', OF_LAMBERT, OF_LAMBERT.replace('30', '0')),
+    ('the latitude of the stated lengths is told by its size', 'description.rs', OF_LAMBERT, OF_LAMBERT.replace('stated_latitude', 'stated_latitude.abs()')),
+    ('the upright meridian is told with a sign', 'description.rs', OF_LAMBERT,
+     OF_LAMBERT.replace('i64::from(self.upright_meridian)', '(i64::from(self.upright_meridian) + 180_000_000) % FULL_TURN - 180_000_000')),
+    ('Dx and Dy are told in each other\'s place', 'description.rs', OF_LAMBERT, OF_LAMBERT.replace('dx, dy', 'dy, dx')),
+    ('the cutting latitudes are told in each other\'s place', 'description.rs', OF_LAMBERT, OF_LAMBERT.replace('cutting, other_cutting', 'other_cutting, cutting')),
+    ('a cutting latitude is told by its size', 'description.rs', OF_LAMBERT, OF_LAMBERT.replace('other_cutting', 'other_cutting.abs()')),
     ('no level is told by all ones', 'description.rs', 'map_or([0, 0, 0],', 'map_or([0, 255, 0xFFFF_FFFF],'),
     ('a factor is told by its size', 'description.rs', '[1, factor, i64::from(scaled_level)]', '[1, factor.abs(), i64::from(scaled_level)]'),
     ('an instant has its valid time for its end', 'description.rs', 'numbers.extend(self.product.numbers());',

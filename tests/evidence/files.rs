@@ -5,7 +5,9 @@ mod calendar;
 mod groups;
 mod past;
 
-use crate::make::{bitmap, section6, section7, Interval, Level, Message, Point, Scaling, Section1, Section3, Section4, Section5, Signed, Time, LARGEST};
+use crate::make::{
+    bitmap, section6, section7, Interval, Level, Message, Point, Scaling, Section1, Section3, Section3Lambert, Section4, Section5, Signed, Time, LARGEST,
+};
 use crate::random::Random;
 pub use bases::small_bases;
 use calendar::{days_of_month, last_second, seconds_of, time_at, SECONDS_OF_UNIT};
@@ -31,7 +33,7 @@ pub fn vast(random: &mut Random) -> Vec<u8> {
 
 /// A file at a limit or one step past it, and otherwise consistent.
 pub fn at_a_limit(random: &mut Random) -> Vec<u8> {
-    let parts = [past::grid, past::time, past::packing, past::groups, past::bitmaps];
+    let parts = [past::grid, past::lambert, past::time, past::packing, past::groups, past::bitmaps];
     random.choose(&parts)(random)
 }
 
@@ -156,7 +158,28 @@ fn first_latitude(random: &mut Random, span: i64) -> i64 {
     (*random.choose(&[any, any, any, POLE, span - POLE, 0, span])).clamp(span - POLE, POLE)
 }
 
+/// Section 3 of either kind.
 fn section3(random: &mut Random, ni: u32, nj: u32) -> Vec<u8> {
+    if random.chance(2, 5) {
+        return lambert(random, ni, nj);
+    }
+    in_degrees(random, ni, nj)
+}
+
+/// The earth's code, and octets 16 to 30 for it.
+fn earth(random: &mut Random) -> (u8, [u8; 15]) {
+    let without_rule = random.octets(15);
+    let any_radius = random.between(1, 0xffff_fffe) as u32;
+    let radius = *random.choose(&[6_371_000, 1, 0xffff_fffe, any_radius]);
+    let mut earth = Section3::earth_of_radius(radius, &without_rule);
+    if random.chance(1, 2) {
+        return (1, earth);
+    }
+    earth.copy_from_slice(&without_rule);
+    (6, earth)
+}
+
+fn in_degrees(random: &mut Random, ni: u32, nj: u32) -> Vec<u8> {
     let (east, di) = span_and_step(random, ni - 1, MOST_EAST);
     let (south, dj) = span_and_step(random, nj - 1, 2 * POLE);
     let north = first_latitude(random, south);
@@ -164,15 +187,38 @@ fn section3(random: &mut Random, ni: u32, nj: u32) -> Vec<u8> {
     let west = *random.choose(&[any, any, 0, MOST_EAST, MOST_EAST - east, (MOST_EAST + 1 - east) % (MOST_EAST + 1)]);
     let first = Point { latitude: latitude(random, north), longitude: west as u32 };
     let last = Point { latitude: latitude(random, north - south), longitude: ((west + east) % (MOST_EAST + 1)) as u32 };
-    let without_rule = random.octets(15);
-    let any_radius = random.between(1, 0xffff_fffe) as u32;
-    let radius = *random.choose(&[6_371_000, 1, 0xffff_fffe, any_radius]);
-    let earth_code = *random.choose(&[1, 6]);
-    let mut earth = Section3::earth_of_radius(radius, &without_rule);
-    if earth_code == 6 {
-        earth.copy_from_slice(&without_rule);
-    }
+    let (earth_code, earth) = earth(random);
     Section3 { earth_code, earth, ni, nj, first, last, di, dj }.octets()
+}
+
+/// Any latitude, often a pole, the equator or the Agency's.
+fn any_latitude(random: &mut Random) -> Signed {
+    let any = random.between(-POLE, POLE);
+    let value = *random.choose(&[any, any, POLE, -POLE, 0, 30_000_000]);
+    latitude(random, value)
+}
+
+fn any_longitude(random: &mut Random) -> u32 {
+    let any = random.between(0, MOST_EAST);
+    *random.choose(&[any, any, 0, MOST_EAST, 140_000_000]) as u32
+}
+
+/// A length on the sheet: any, the shortest, the longest, or the Agency's.
+fn any_length(random: &mut Random) -> u32 {
+    let any = random.between(1, LARGEST as i64) as u32;
+    *random.choose(&[any, any, 1, LARGEST as u32, 5_000_000])
+}
+
+/// The numbers of a Lambert grid need not fit one another: no rule ties them.
+fn lambert(random: &mut Random, ni: u32, nj: u32) -> Vec<u8> {
+    let (earth_code, earth) = earth(random);
+    let first = Point { latitude: any_latitude(random), longitude: any_longitude(random) };
+    let (stated_latitude, upright_meridian) = (any_latitude(random), any_longitude(random));
+    let (dx, dy) = (any_length(random), any_length(random));
+    let cutting_latitudes = [any_latitude(random), any_latitude(random)];
+    let pole = random.any().to_be_bytes();
+    let own = Section3Lambert { stated_latitude, upright_meridian, dx, dy, cutting_latitudes, pole, ..Section3Lambert::default() };
+    Section3Lambert { earth_code, earth, ni, nj, first, ..own }.octets()
 }
 
 // ---- products

@@ -1,6 +1,6 @@
 //! Files on either side of the largest size that is taken, 268,435,456 octets. They are zero but for the heads of their sections.
 use crate::cases::{described, placed, Case, Question};
-use crate::make::{number, section6, Point, Scaling, Section1, Section3, Section4, Section5};
+use crate::make::{number, section6, Point, Scaling, Section1, Section3, Section3Lambert, Section4, Section5};
 use std::rc::Rc;
 
 const MOST_OCTETS: usize = 268_435_456;
@@ -15,28 +15,35 @@ struct Field {
     packed: usize,
 }
 
-fn field(ni: u32, nj: u32, bits: u8) -> Field {
+fn in_degrees(ni: u32, nj: u32, bits: u8) -> Field {
     let (first, last) = (Point::at(30_000_000, 100_000_000), Point::at(30_000_000 - 1000 * i64::from(nj - 1), 100_000_000 + 1000 * (ni - 1)));
-    let grid = Section3 { ni, nj, first, last, di: 1000, dj: 1000, ..Section3::default() };
-    let count = ni * nj;
+    field(Section3 { ni, nj, first, last, di: 1000, dj: 1000, ..Section3::default() }.octets(), ni * nj, bits)
+}
+
+fn on_a_sheet(ni: u32, nj: u32, bits: u8) -> Field {
+    field(Section3Lambert { ni, nj, ..Section3Lambert::default() }.octets(), ni * nj, bits)
+}
+
+fn field(grid: Vec<u8>, count: u32, bits: u8) -> Field {
     let five = Section5 { count, scaling: Scaling::of(1.5, -3, 2), bits, groups: None };
     let packed = (count as usize * usize::from(bits) + 7) / 8;
     let seven = [number(5 + packed as u64, 4), vec![7]].concat();
-    Field { heads: [grid.octets(), Section4::default().octets(), five.octets(), section6(255, &[]), seven].concat(), packed }
+    Field { heads: [grid, Section4::default().octets(), five.octets(), section6(255, &[]), seven].concat(), packed }
 }
 
 fn length_of(fields: &[Field]) -> usize {
     fields.iter().map(|field| field.heads.len() + field.packed).sum()
 }
 
-/// Fields that fill so many octets to the last: large ones, a row as long as still fits, and one whose bits make up what is left.
+/// Fields that fill so many octets to the last: large ones, a row as long as still fits, and one whose bits make up what is left. The row is on a grid in
+/// degrees, and what comes after it on a sheet.
 fn fields_of(room: usize) -> Vec<Field> {
-    let mut fields: Vec<Field> = (0..4).map(|_| field(4096, 4096, 31)).collect();
-    fields.push(field(4096, 2000, 8));
-    let heads = fields[0].heads.len();
-    let left = room - length_of(&fields) - 2 * heads;
-    fields.push(field((left / 3) as u32, 1, 24));
-    fields.push(field(LAST_POINTS, 1, (left % 3) as u8));
+    let mut fields: Vec<Field> = [in_degrees, on_a_sheet, in_degrees, on_a_sheet].iter().map(|on_grid| on_grid(4096, 4096, 31)).collect();
+    fields.push(in_degrees(4096, 2000, 8));
+    let heads = length_of(&[in_degrees(1, 1, 0), on_a_sheet(1, 1, 0)]);
+    let left = room - length_of(&fields) - heads;
+    fields.push(in_degrees((left / 3) as u32, 1, 24));
+    fields.push(on_a_sheet(LAST_POINTS, 1, (left % 3) as u8));
     fields
 }
 
@@ -56,7 +63,7 @@ fn message(length: usize) -> (Vec<u8>, u64) {
     (file, fields.len() as u64)
 }
 
-/// The largest file that is taken, with its first and its last field; the same with an octet behind it; and zeros of both lengths.
+/// The largest file that is taken, with its first and its last two fields; the same with an octet behind it; and zeros of both lengths.
 pub fn largest(take: &mut dyn FnMut(Case) -> bool) {
     let (taken, fields) = message(MOST_OCTETS);
     let mut over = taken.clone();
@@ -66,7 +73,8 @@ pub fn largest(take: &mut dyn FnMut(Case) -> bool) {
     let decode = |k| Question::Decode { k, start: 3, values_length: room, presence_length: room };
     for file in &files {
         let decodes = [0, fields - 1, fields].map(decode);
-        for question in [Question::Check, described(fields - 1), placed(fields - 1, 1)].into_iter().chain(decodes) {
+        let numbers = [fields - 2, fields - 1].into_iter().flat_map(|k| [described(k)].into_iter().chain(placed(k, 1)));
+        for question in [Question::Check].into_iter().chain(numbers).chain(decodes) {
             take(Case { kind: "the largest size", file: Rc::clone(file), question });
         }
     }

@@ -61,6 +61,7 @@ impl Lender {
             Question::Decode { k, start, values_length, presence_length } => [2, k, 0, start, values_length, presence_length],
             Question::Describe { k, length } => [3, k, 0, 0, length, 0],
             Question::Place { k, n, length } => [4, k, n, 0, length, 0],
+            Question::Sheet { k, n, length } => [5, k, n, 0, length, 0],
         };
         self.write_numbers(&question)?;
         self.write_numbers(&[answer.written.unwrap_or(NONE)])?;

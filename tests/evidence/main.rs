@@ -6,7 +6,8 @@
 //!   evidence repeat RULES SEED NUMBER FILE -- LENDER..           one case again, shown in words; its file is written to FILE
 //!   evidence listing SEED COUNT -- PROGRAM..                     what the listing program prints
 //!   evidence rebuild SEED COUNT -- PROGRAM..                     doubles one by one
-//!   evidence eccodes SEED COUNT -- PROGRAM..                     valid files as ecCodes reads them
+//!   evidence full FILE INTEGERS -- LENDER..                      a field at the Agency's full size, into which these integers were packed
+//!   evidence eccodes FILE SEED COUNT -- PROGRAM..                FILE and valid files of the seed, as ecCodes reads them
 //!   evidence vectors NAME SEED FOLDER                            what the program NAME reads and has to print, for the interpreter
 //!
 //! RULES is a file of rules, or "none" for the cases of the seed alone. LENDER and the like are commands. The exit status is 1 where anything differs.
@@ -16,6 +17,7 @@ mod corpus;
 mod damage;
 mod eccodes;
 mod files;
+mod full;
 mod largest;
 mod lender;
 mod make;
@@ -38,7 +40,7 @@ use std::time::{Duration, Instant};
 /// How many cases a seed gives before a soak goes on to the next.
 const CASES_A_SEED: u64 = 1_000_000;
 /// The refusals that the corpus has to reach: all that the library's questions about a file give.
-const REFUSALS: std::ops::RangeInclusive<usize> = 1..=17;
+const REFUSALS: [usize; 18] = [1, 2, 3, 4, 5, 6, 7, 8, 9, 10, 11, 12, 13, 14, 15, 16, 17, 20];
 
 /// What a run has compared so far.
 #[derive(Default)]
@@ -86,7 +88,7 @@ fn show(tally: &Tally) -> Vec<usize> {
     }
     let numbers = |(number, count): (&usize, &u64)| if *number == 0 { format!("answered {}", count) } else { format!("{}: {}", number, count) };
     println!("  by answer, and by the number of the refusal: {}", tally.refusals.iter().map(numbers).collect::<Vec<_>>().join(", "));
-    REFUSALS.filter(|number| !tally.refusals.contains_key(number)).collect()
+    REFUSALS.into_iter().filter(|number| !tally.refusals.contains_key(number)).collect()
 }
 
 fn whole_corpus(corpus: &Corpus, record: &str, command: &[String]) -> io::Result<bool> {
@@ -172,7 +174,8 @@ fn run(words: &[String]) -> io::Result<bool> {
         ["repeat", rules, seed, case, file] => repeat(&corpus_of(rules, seed, u64::MAX)?, number(case), file, command),
         ["listing", seed, most] => programs::listing(number(seed), number(most), command),
         ["rebuild", seed, most] => programs::rebuild(number(seed), number(most), command),
-        ["eccodes", seed, most] => eccodes::eccodes(number(seed), number(most), command),
+        ["full", file, integers] => full::full(file, integers, command),
+        ["eccodes", file, seed, most] => eccodes::eccodes(file, number(seed), number(most), command),
         ["vectors", name, seed, folder] => vectors::write(name, number(seed), folder),
         _ => Err(io::Error::new(io::ErrorKind::InvalidInput, "no such command")),
     }

@@ -136,6 +136,62 @@ impl Section3 {
     }
 }
 
+/// Grid template 3.30, by default on the Agency's own cone.
+pub struct Section3Lambert {
+    pub earth_code: u8,
+    /// Octets 16 to 30, as in template 3.0.
+    pub earth: [u8; 15],
+    pub ni: u32,
+    pub nj: u32,
+    pub first: Point,
+    /// Octet 47.
+    pub flags: u8,
+    pub stated_latitude: Signed,
+    pub upright_meridian: u32,
+    pub dx: u32,
+    pub dy: u32,
+    /// Octet 64.
+    pub centre: u8,
+    /// Octet 65.
+    pub scanning: u8,
+    pub cutting_latitudes: [Signed; 2],
+    /// Octets 74 to 81, which are not judged.
+    pub pole: [u8; 8],
+}
+
+impl Default for Section3Lambert {
+    fn default() -> Section3Lambert {
+        Section3Lambert {
+            earth_code: 1,
+            earth: Section3::earth_of_radius(6_371_000, &[255; 10]),
+            ni: 2,
+            nj: 2,
+            first: Point::at(44_137_789, 102_008_758),
+            flags: 0x08,
+            stated_latitude: 30_000_000.into(),
+            upright_meridian: 140_000_000,
+            dx: 5_000_000,
+            dy: 4_000_000,
+            centre: 0,
+            scanning: 0,
+            cutting_latitudes: [60_000_000.into(), 30_000_000.into()],
+            pole: [255; 8],
+        }
+    }
+}
+
+impl Section3Lambert {
+    pub fn octets(&self) -> Vec<u8> {
+        let points = number(u64::from(self.ni) * u64::from(self.nj), 4);
+        let sizes = [number(self.ni.into(), 4), number(self.nj.into(), 4)].concat();
+        let cone = [self.stated_latitude.octets(4), number(self.upright_meridian.into(), 4)].concat();
+        let lengths = [number(self.dx.into(), 4), number(self.dy.into(), 4), vec![self.centre, self.scanning]].concat();
+        let cut = self.cutting_latitudes.map(|latitude| latitude.octets(4)).concat();
+        let before = [&[0], &points[..], &[0, 0, 0, 30], &[self.earth_code], &self.earth, &sizes, &self.first.octets()].concat();
+        section(3, &[&before[..], &[self.flags], &cone, &lengths, &cut, &self.pole].concat())
+    }
+}
+
 #[derive(Clone, Copy)]
 pub struct Level {
     pub factor: Signed,

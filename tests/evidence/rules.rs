@@ -2,7 +2,7 @@
 //! come here as a file, so that the independent decoder is held to them too.
 use crate::answers::{read_number, Answer};
 use crate::answers_of;
-use crate::cases::{described, placed, Case, Question, DESCRIPTION, POSITION};
+use crate::cases::{described, placed, Case, Question, DESCRIPTION, DESCRIPTION_LAMBERT, POSITION, SHEET_PLACE};
 use std::fs;
 use std::io::{self, Read};
 use std::rc::Rc;
@@ -78,8 +78,10 @@ pub fn cases(rules: &[Rule], take: &mut dyn FnMut(Case) -> bool) {
             Question::Describe { k, .. } | Question::Decode { k, .. } => k,
             _ => 0,
         };
-        let short = [Question::Describe { k, length: DESCRIPTION - 1 }, Question::Place { k, n: 1, length: POSITION - 1 }];
-        for question in [Question::Check, described(k), placed(k, 1), decode(k)].into_iter().chain(short) {
+        let short = [DESCRIPTION - 1, DESCRIPTION_LAMBERT - 1].map(|length| Question::Describe { k, length });
+        let short_places = [Question::Place { k, n: 1, length: POSITION - 1 }, Question::Sheet { k, n: 1, length: SHEET_PLACE - 1 }];
+        let with_room = [Question::Check, described(k), decode(k)].into_iter().chain(placed(k, 1));
+        for question in with_room.chain(short).chain(short_places) {
             take(Case { kind: "either side of a rule", file: Rc::clone(&rule.file), question });
         }
     }

@@ -20,20 +20,23 @@ fn hexadecimal(octets: &[u8]) -> String {
     octets.iter().map(|octet| format!("{:02x}", octet)).collect()
 }
 
-/// The questions that the program puts about one file: those of decode, describe and place, about the same field.
+/// The questions that the program puts about one file: those of decode, describe, place and sheet, about the same field. Place and sheet are asked about the
+/// same point, in runs of the same length.
 struct Asked {
     decode: Case,
     describe: Case,
     place: Case,
+    sheet: Case,
 }
 
-/// Describe and place beside a question to decode, in runs whose lengths, and of a point whose number, change from turn to turn.
+/// Describe, place and sheet beside a question to decode, in runs whose lengths, and of a point whose number, change from turn to turn.
 fn asked(decode: &Case, k: u64, turn: u64) -> Asked {
     let about_file = |question: Question| Case { kind: decode.kind, file: Rc::clone(&decode.file), question };
     Asked {
         decode: about_file(decode.question.clone()),
         describe: about_file(Question::Describe { k, length: length_in_turn(turn) }),
         place: about_file(Question::Place { k, n: turn % 7, length: turn % 5 }),
+        sheet: about_file(Question::Sheet { k, n: turn % 7, length: turn % 5 }),
     }
 }
 
@@ -67,7 +70,7 @@ fn words_of_runs(decode: Answer, values_length: u64, presence_length: u64) -> Ve
     words
 }
 
-/// The answer of describe or place and every number of the run, likewise.
+/// The answer of describe, place or sheet and every number of the run, likewise.
 fn words_of_numbers(answer: Answer, length: u64) -> Vec<String> {
     let mut words = vec![hexadecimal(&answer.octets[..8])];
     let run = if answer.written.is_some() { answer.octets } else { Answer::of_numbers(0, &untouched_numbers(length)).octets };
@@ -83,10 +86,10 @@ fn line(asked: &Asked) -> String {
     let by_reference = answers_of!(reference);
     let check = Case { kind: asked.decode.kind, file: Rc::clone(&asked.decode.file), question: Question::Check };
     let mut words = vec![hexadecimal(&by_reference(&check).octets)];
-    for case in [&asked.decode, &asked.describe, &asked.place] {
+    for case in [&asked.decode, &asked.describe, &asked.place, &asked.sheet] {
         words.extend(match case.question {
             Question::Decode { values_length, presence_length, .. } => words_of_runs(by_reference(case), values_length, presence_length),
-            Question::Describe { length, .. } | Question::Place { length, .. } => words_of_numbers(by_reference(case), length),
+            Question::Describe { length, .. } | Question::Place { length, .. } | Question::Sheet { length, .. } => words_of_numbers(by_reference(case), length),
             Question::Check => vec![],
         });
     }

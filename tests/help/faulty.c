@@ -6,6 +6,7 @@
 #undef skeptolyr_decode
 #undef skeptolyr_describe
 #undef skeptolyr_place
+#undef skeptolyr_sheet
 #include "skeptolyr.h"
 
 #include <stdlib.h>
@@ -15,6 +16,7 @@ uint64_t faulty_check(const uint8_t *file, size_t file_len);
 uint64_t faulty_decode(const uint8_t *file, size_t file_len, size_t k, size_t start, double *values, size_t values_len, uint8_t *presence, size_t presence_len);
 uint64_t faulty_describe(const uint8_t *file, size_t file_len, size_t k, int64_t *numbers, size_t numbers_len);
 uint64_t faulty_place(const uint8_t *file, size_t file_len, size_t k, size_t n, int64_t *position, size_t position_len);
+uint64_t faulty_sheet(const uint8_t *file, size_t file_len, size_t k, size_t n, int64_t *place, size_t place_len);
 
 /* In the order of tests/help/faulty.py's table. */
 enum {
@@ -34,12 +36,21 @@ enum {
     DESCRIBE_WRITES_BESIDE, DESCRIBE_ROOM_FIRST, DESCRIBE_PUTS_WHAT_FITS, DESCRIBE_WRITES_AND_REFUSES,
     /* of place */
     PLACES_POINT_0, PLACE_SWAPPED, LATITUDE_SIGN_LOST, PLACES_BEHIND_LAST, PLACE_WRITES_BEHIND, PLACE_WRITES_BESIDE, PLACE_ROOM_FIRST, PLACE_ROOM_BEFORE_POINT,
-    PLACE_PUTS_WHAT_FITS, PLACE_WRITES_AND_REFUSES, LONGITUDE_BY_STEPS, LONGITUDE_ROUNDED_DOWN, HALF_NORTHWARD
+    PLACE_PUTS_WHAT_FITS, PLACE_WRITES_AND_REFUSES, LONGITUDE_BY_STEPS, LONGITUDE_ROUNDED_DOWN, HALF_NORTHWARD,
+    /* of describe, where there are two kinds of grid */
+    LAMBERT_IN_53, ZEROS_NOT_PUT, DEGREES_IN_60, WANTS_60_ALWAYS, LENGTHS_SWAPPED, CUTTING_SWAPPED, ANGLES_SWAPPED, LAMBERT_SIGNS_LOST, TEMPLATE_IS_0,
+    /* of place, on a Lambert grid, and of refusal 20 */
+    PLACE_ON_LAMBERT, PLACE_REFUSES_AS_BAD, PLACE_POINT_BEFORE_GRID, PLACE_ROOM_BEFORE_GRID, OTHER_GRID_AT_SECTION_3,
+    /* of sheet */
+    SHEET_OF_POINT_0, SHEET_SWAPPED, DOWN_IS_UPWARD, DOWN_BY_DX, COLUMNS_BY_NJ, SHEET_IN_32_BITS, SHEET_IN_METRES, SHEET_BEHIND_LAST, SHEET_ON_DEGREES,
+    SHEET_POINT_BEFORE_GRID, SHEET_ROOM_BEFORE_GRID, SHEET_WRITES_BEHIND, SHEET_WRITES_BESIDE, SHEET_ROOM_FIRST, SHEET_ROOM_BEFORE_POINT,
+    SHEET_PUTS_WHAT_FITS, SHEET_WRITES_AND_REFUSES
 };
 
 /* Where numbers of a description stand. */
 enum {
-    NI = 10, NJ = 11, FIRST_LATITUDE = 13, FIRST_LONGITUDE = 14, LAST_LATITUDE = 15, LAST_LONGITUDE = 16, DI = 17, FACTOR = 24, SCALED = 25, START_OF_7 = 52
+    NI = 10, NJ = 11, POINTS = 12, FIRST_LATITUDE = 13, FIRST_LONGITUDE = 14, LAST_LATITUDE = 15, LAST_LONGITUDE = 16, DI = 17, DJ = 18, FACTOR = 24,
+    SCALED = 25, START_OF_3 = 48, START_OF_7 = 52, GRID_TEMPLATE = 53, STATED = 54, UPRIGHT = 55, DX = 56, DY = 57, CUTTING = 58
 };
 
 /* All the way round the earth, in millionths of a degree. */
@@ -203,13 +214,13 @@ static void write_more(int64_t *run, size_t run_len, size_t put, int writes_behi
         run[put] = 0;
 }
 
-static void change_numbers(int64_t *numbers, int is_second)
+static void change_numbers(int64_t *numbers, int64_t count, int is_second)
 {
     if (fault() == NUMBER_MORE || (fault() == NUMBER_EVERY_SECOND && is_second))
         numbers[START_OF_7]++;
     if (fault() == NUMBERS_SWAPPED)
         swap(numbers + NI, numbers + NJ);
-    for (int i = 0; fault() == SIGNS_LOST && i < SKEPTOLYR_DESCRIPTION; i++)
+    for (int64_t i = fault() == SIGNS_LOST ? 0 : fault() == LAMBERT_SIGNS_LOST ? GRID_TEMPLATE : count; i < count; i++)
         numbers[i] = numbers[i] < 0 ? -numbers[i] : numbers[i];
     if (fault() == NO_LEVEL_AS_ONES && numbers[FACTOR - 1] == 0) {
         numbers[FACTOR] = 255;
@@ -217,25 +228,74 @@ static void change_numbers(int64_t *numbers, int is_second)
     }
 }
 
+/* Changes what a Lambert grid has of its own. */
+static void change_lambert(int64_t *numbers)
+{
+    switch (fault()) {
+    case LENGTHS_SWAPPED:
+        swap(numbers + DX, numbers + DY);
+        break;
+    case CUTTING_SWAPPED:
+        swap(numbers + CUTTING, numbers + CUTTING + 1);
+        break;
+    case ANGLES_SWAPPED:
+        swap(numbers + STATED, numbers + UPRIGHT);
+        break;
+    case TEMPLATE_IS_0:
+        numbers[GRID_TEMPLATE] = 0;
+        break;
+    }
+}
+
+/* Describes as if the kinds of grid had other numbers than they have: 53 on a Lambert grid, no zeros there, 60 on a grid in degrees, or a run of 60 for
+ * both. */
+static uint64_t describe_other_kind(const uint8_t *file, size_t file_len, size_t k, int64_t *numbers, size_t numbers_len)
+{
+    int64_t own[SKEPTOLYR_DESCRIPTION_LAMBERT] = {0};
+    uint64_t answer = skeptolyr_describe(file, file_len, k, own, numbers_len < SKEPTOLYR_DESCRIPTION_LAMBERT ? numbers_len : SKEPTOLYR_DESCRIPTION_LAMBERT);
+    if (skeptolyr_is_refusal(answer))
+        return answer;
+    if (fault() == WANTS_60_ALWAYS && numbers_len < SKEPTOLYR_DESCRIPTION_LAMBERT)
+        return refusal(SKEPTOLYR_NO_ROOM, 0);
+    int leaves_zeros = fault() == ZEROS_NOT_PUT && answer == SKEPTOLYR_DESCRIPTION_LAMBERT;
+    if (fault() == LAMBERT_IN_53)
+        answer = SKEPTOLYR_DESCRIPTION;
+    if (fault() == DEGREES_IN_60 && numbers_len >= SKEPTOLYR_DESCRIPTION_LAMBERT)
+        answer = SKEPTOLYR_DESCRIPTION_LAMBERT;
+    for (size_t i = 0; i < answer; i++)
+        if (!leaves_zeros || i < LAST_LATITUDE || i > DJ)
+            numbers[i] = own[i];
+    return answer;
+}
+
+/* What a refused call to describe comes to. */
+static uint64_t describe_refused(uint64_t answer, const uint8_t *file, size_t file_len, size_t k, int64_t *numbers, size_t numbers_len)
+{
+    int64_t own[SKEPTOLYR_DESCRIPTION_LAMBERT];
+    if (fault() == DESCRIBE_PUTS_WHAT_FITS && is_refused_by(answer, SKEPTOLYR_NO_ROOM)) {
+        skeptolyr_describe(file, file_len, k, own, SKEPTOLYR_DESCRIPTION_LAMBERT);
+        return put_what_fits(own, numbers, numbers_len);
+    }
+    if (fault() == DESCRIBE_WRITES_AND_REFUSES && numbers_len > 0)
+        numbers[numbers_len - 1] = 0;
+    return answer;
+}
+
 uint64_t faulty_describe(const uint8_t *file, size_t file_len, size_t k, int64_t *numbers, size_t numbers_len)
 {
     static unsigned int calls;
     int is_second = calls++ % 2;
-    int64_t own[SKEPTOLYR_DESCRIPTION];
     if (fault() == DESCRIBE_ROOM_FIRST && numbers_len < SKEPTOLYR_DESCRIPTION)
         return refusal(SKEPTOLYR_NO_ROOM, 0);
+    if (fault() >= LAMBERT_IN_53 && fault() <= WANTS_60_ALWAYS)
+        return describe_other_kind(file, file_len, k, numbers, numbers_len);
     uint64_t answer = skeptolyr_describe(file, file_len, fault() == DESCRIBES_FIELD_0 ? 0 : k, numbers, numbers_len);
-    if (skeptolyr_is_refusal(answer)) {
-        if (fault() == DESCRIBE_PUTS_WHAT_FITS && is_refused_by(answer, SKEPTOLYR_NO_ROOM)) {
-            skeptolyr_describe(file, file_len, k, own, SKEPTOLYR_DESCRIPTION);
-            return put_what_fits(own, numbers, numbers_len);
-        }
-        if (fault() == DESCRIBE_WRITES_AND_REFUSES && numbers_len > 0)
-            numbers[numbers_len - 1] = 0;
-        return answer;
-    }
-    change_numbers(numbers, is_second);
-    write_more(numbers, numbers_len, SKEPTOLYR_DESCRIPTION, fault() == DESCRIBE_WRITES_BEHIND, fault() == DESCRIBE_WRITES_BESIDE);
+    if (skeptolyr_is_refusal(answer))
+        return describe_refused(answer, file, file_len, k, numbers, numbers_len);
+    change_numbers(numbers, (int64_t)answer, is_second);
+    if (answer == SKEPTOLYR_DESCRIPTION_LAMBERT)
+        change_lambert(numbers);
+    write_more(numbers, numbers_len, (size_t)answer, fault() == DESCRIBE_WRITES_BEHIND, fault() == DESCRIBE_WRITES_BESIDE);
     return answer + (fault() == DESCRIBE_ANSWERS_MORE);
 }
 
@@ -275,10 +335,36 @@ static void change_position(const uint8_t *file, size_t file_len, size_t k, size
     }
 }
 
+/* The faults of place, or of sheet, where a grid of the other kind has to be refused. */
+struct faults_of_kind {
+    int answers, point_before_grid, room_before_grid;
+};
+
+/* What a call comes to that is refused because the grid is of the other kind. `run` has room for two numbers, or is too short. */
+static uint64_t other_grid(struct faults_of_kind of, uint64_t answer, const uint8_t *file, size_t file_len, size_t k, size_t n, int64_t *run, size_t run_len)
+{
+    int64_t own[SKEPTOLYR_DESCRIPTION_LAMBERT];
+    uint64_t count = skeptolyr_describe(file, file_len, k, own, SKEPTOLYR_DESCRIPTION_LAMBERT);
+    int is_lambert = count == SKEPTOLYR_DESCRIPTION_LAMBERT;
+    if (fault() == of.answers && n < (size_t)own[POINTS] && run_len >= 2) {
+        run[0] = is_lambert ? own[FIRST_LATITUDE] : (int64_t)n % own[NI] * own[DI];
+        run[1] = is_lambert ? own[FIRST_LONGITUDE] : (int64_t)n / own[NI] * own[DJ];
+        return 2;
+    }
+    if (fault() == of.point_before_grid && n >= (size_t)own[POINTS])
+        return refusal(SKEPTOLYR_NO_SUCH_POINT, 0);
+    if (fault() == of.room_before_grid && run_len < 2)
+        return refusal(SKEPTOLYR_NO_ROOM, 0);
+    if (fault() == PLACE_REFUSES_AS_BAD && is_lambert)
+        return refusal(SKEPTOLYR_BAD_GRID, (uint32_t)own[START_OF_3]);
+    return fault() == OTHER_GRID_AT_SECTION_3 ? refusal(SKEPTOLYR_OTHER_GRID, (uint32_t)own[START_OF_3]) : answer;
+}
+
 /* What a refused call to place comes to. */
 static uint64_t place_refused(uint64_t answer, const uint8_t *file, size_t file_len, size_t k, size_t n, int64_t *position, size_t position_len)
 {
     int64_t own[SKEPTOLYR_POSITION];
+    struct faults_of_kind of = {PLACE_ON_LAMBERT, PLACE_POINT_BEFORE_GRID, PLACE_ROOM_BEFORE_GRID};
     if (fault() == PLACE_ROOM_BEFORE_POINT && is_refused_by(answer, SKEPTOLYR_NO_SUCH_POINT) && position_len < SKEPTOLYR_POSITION)
         return refusal(SKEPTOLYR_NO_ROOM, 0);
     if (fault() == PLACE_PUTS_WHAT_FITS && is_refused_by(answer, SKEPTOLYR_NO_ROOM)) {
@@ -289,7 +375,7 @@ static uint64_t place_refused(uint64_t answer, const uint8_t *file, size_t file_
         return skeptolyr_place(file, file_len, k, n - 1, position, position_len);
     if (fault() == PLACE_WRITES_AND_REFUSES && position_len > 0)
         position[position_len - 1] = 0;
-    return answer;
+    return is_refused_by(answer, SKEPTOLYR_OTHER_GRID) ? other_grid(of, answer, file, file_len, k, n, position, position_len) : answer;
 }
 
 uint64_t faulty_place(const uint8_t *file, size_t file_len, size_t k, size_t n, int64_t *position, size_t position_len)
@@ -301,5 +387,64 @@ uint64_t faulty_place(const uint8_t *file, size_t file_len, size_t k, size_t n, 
         return place_refused(answer, file, file_len, k, n, position, position_len);
     change_position(file, file_len, k, n, position);
     write_more(position, position_len, SKEPTOLYR_POSITION, fault() == PLACE_WRITES_BEHIND, fault() == PLACE_WRITES_BESIDE);
+    return answer;
+}
+
+static void change_sheet_place(const uint8_t *file, size_t file_len, size_t k, size_t n, int64_t *place)
+{
+    int64_t own[SKEPTOLYR_DESCRIPTION_LAMBERT];
+    skeptolyr_describe(file, file_len, k, own, SKEPTOLYR_DESCRIPTION_LAMBERT);
+    switch (fault()) {
+    case SHEET_SWAPPED:
+        swap(place, place + 1);
+        break;
+    case DOWN_IS_UPWARD:
+        place[1] = -place[1];
+        break;
+    case DOWN_BY_DX:
+        place[1] = (int64_t)n / own[NI] * own[DX];
+        break;
+    case COLUMNS_BY_NJ:
+        place[0] = (int64_t)n % own[NJ] * own[DX];
+        place[1] = (int64_t)n / own[NJ] * own[DY];
+        break;
+    case SHEET_IN_32_BITS:
+        place[0] &= UINT32_MAX;
+        place[1] &= UINT32_MAX;
+        break;
+    case SHEET_IN_METRES:
+        place[0] /= 1000;
+        place[1] /= 1000;
+        break;
+    }
+}
+
+/* What a refused call to sheet comes to. */
+static uint64_t sheet_refused(uint64_t answer, const uint8_t *file, size_t file_len, size_t k, size_t n, int64_t *place, size_t place_len)
+{
+    int64_t own[SKEPTOLYR_SHEET_PLACE];
+    struct faults_of_kind of = {SHEET_ON_DEGREES, SHEET_POINT_BEFORE_GRID, SHEET_ROOM_BEFORE_GRID};
+    if (fault() == SHEET_ROOM_BEFORE_POINT && is_refused_by(answer, SKEPTOLYR_NO_SUCH_POINT) && place_len < SKEPTOLYR_SHEET_PLACE)
+        return refusal(SKEPTOLYR_NO_ROOM, 0);
+    if (fault() == SHEET_PUTS_WHAT_FITS && is_refused_by(answer, SKEPTOLYR_NO_ROOM)) {
+        skeptolyr_sheet(file, file_len, k, n, own, SKEPTOLYR_SHEET_PLACE);
+        return put_what_fits(own, place, place_len);
+    }
+    if (fault() == SHEET_BEHIND_LAST && is_refused_by(answer, SKEPTOLYR_NO_SUCH_POINT))
+        return skeptolyr_sheet(file, file_len, k, n - 1, place, place_len);
+    if (fault() == SHEET_WRITES_AND_REFUSES && place_len > 0)
+        place[place_len - 1] = 0;
+    return is_refused_by(answer, SKEPTOLYR_OTHER_GRID) ? other_grid(of, answer, file, file_len, k, n, place, place_len) : answer;
+}
+
+uint64_t faulty_sheet(const uint8_t *file, size_t file_len, size_t k, size_t n, int64_t *place, size_t place_len)
+{
+    if (fault() == SHEET_ROOM_FIRST && place_len < SKEPTOLYR_SHEET_PLACE)
+        return refusal(SKEPTOLYR_NO_ROOM, 0);
+    uint64_t answer = skeptolyr_sheet(file, file_len, k, fault() == SHEET_OF_POINT_0 ? 0 : n, place, place_len);
+    if (skeptolyr_is_refusal(answer))
+        return sheet_refused(answer, file, file_len, k, n, place, place_len);
+    change_sheet_place(file, file_len, k, n, place);
+    write_more(place, place_len, SKEPTOLYR_SHEET_PLACE, fault() == SHEET_WRITES_BEHIND, fault() == SHEET_WRITES_BESIDE);
     return answer;
 }

@@ -53,8 +53,39 @@ FAULTS = [
     'a longitude is worked out by steps',
     'a longitude is rounded down',
     'a latitude halfway between two millionths goes northward',
+    'a Lambert grid is described by 53 numbers',
+    'the zeros of a Lambert grid are not put',
+    'a grid in degrees is described by 60 numbers',
+    'describe wants a run of 60 for a grid in degrees',
+    'Dx and Dy have changed places',
+    'the cutting latitudes have changed places',
+    'the latitude of the stated lengths and the upright meridian have changed places',
+    'the latitudes of a cone below 0 lose their signs',
+    'the template of a Lambert grid is told as 0',
+    'place answers for a Lambert grid',
+    'place refuses a Lambert grid as one that is not read',
+    'place refuses a point that is not there before a Lambert grid',
+    'place refuses a short run before a Lambert grid',
+    'a grid of the other kind is refused at its section',
+    'sheet gives point 0 for every point',
+    'right and down have changed places',
+    'down is counted upward',
+    'down is worked out with Dx',
+    'columns and rows are counted by Nj',
+    'a sheet place has 32 bits',
+    'a sheet place is told in metres',
+    'a point behind the last has a sheet place',
+    'sheet answers for a grid in degrees',
+    'sheet refuses a point that is not there before a grid in degrees',
+    'sheet refuses a short run before a grid in degrees',
+    'sheet writes behind the run',
+    'sheet writes behind its numbers',
+    'sheet refuses a short run before all else',
+    'sheet refuses a short run before a point that is not there',
+    'sheet puts as many numbers as there is room for',
+    'sheet writes and refuses',
 ]
-# The numbers of the faults of describe and place.
+# The numbers of the faults of describe, place and sheet.
 OF_NUMBERS = range(FAULTS.index('describe gives field 0 for every field'), len(FAULTS))
 # The words that have a compiler call the faulty functions in the library's place.
-RENAMED = ['-Dskeptolyr_%s=faulty_%s' % (name, name) for name in ('check', 'decode', 'describe', 'place')]
+RENAMED = ['-Dskeptolyr_%s=faulty_%s' % (name, name) for name in ('check', 'decode', 'describe', 'place', 'sheet')]

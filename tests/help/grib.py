@@ -24,14 +24,28 @@ def section1(reference, status=0):
     return section(1, number(34, 2) + number(0, 2) + bytes([2, 1]) + bytes([1]) + reference + bytes([status, 1]))
 
 
+def earth(radius):
+    """Octets 15-30: earth code 6, or code 1 with a radius."""
+    return bytes([6]) + b'\xff' * 15 if radius is None else bytes([1, 0]) + number(radius, 4) + b'\xff' * 10
+
+
 def section3(ni, nj, first, last, di, dj, radius=None):
     """Grid 3.0 on the sphere of earth code 6, or of code 1 with a radius. Places are (latitude, longitude) in millionths of a degree."""
     body = bytes([0]) + number(ni * nj, 4) + bytes([0, 0]) + number(0, 2)
-    body += bytes([6]) + b'\xff' * 15 if radius is None else bytes([1, 0]) + number(radius, 4) + b'\xff' * 10
+    body += earth(radius)
     body += number(ni, 4) + number(nj, 4) + number(0, 4) + b'\xff' * 4
     body += signed(first[0], 4) + number(first[1], 4) + bytes([0x30]) + signed(last[0], 4) + number(last[1], 4)
     body += number(di, 4) + number(dj, 4) + bytes([0])
     return section(3, body)
+
+
+def section3_lambert(ni, nj, first, dx, dy, stated=30000000, upright=140000000, cutting=(60000000, 30000000), radius=6371000):
+    """Grid 3.30, by default on the Agency's cone: the latitude of the stated lengths, the upright meridian, and the two cutting latitudes. The first point is
+    (latitude, longitude) in millionths of a degree, and the lengths are in thousandths of a metre."""
+    body = bytes([0]) + number(ni * nj, 4) + bytes([0, 0]) + number(30, 2) + earth(radius) + number(ni, 4) + number(nj, 4)
+    body += signed(first[0], 4) + number(first[1], 4) + bytes([0x08]) + signed(stated, 4) + number(upright, 4)
+    body += number(dx, 4) + number(dy, 4) + bytes([0, 0]) + signed(cutting[0], 4) + signed(cutting[1], 4)
+    return section(3, body + b'\xff' * 8)
 
 
 def product(category, parameter, surface, level, unit, forecast):

@@ -1,5 +1,5 @@
-/* What a user's program does: it puts the file on standard input to the functions of the installed header, all of them, and prints what they answer.
- * tests/install.py compiles it as C and as C++, with what pkg-config says and nothing else. */
+/* What a user's program does: it puts the file on standard input to the functions of the installed header, all of them, and prints what they answer. Of
+ * descriptions and places it prints only where they do not agree. tests/install.py compiles it as C and as C++, with what pkg-config says and nothing else. */
 #include <skeptolyr.h>
 
 #include <stdio.h>
@@ -12,6 +12,24 @@ static void print_refusal(uint64_t answer)
 {
     uint32_t number = skeptolyr_refusal_number(answer);
     printf("refused %u at %u. %s\n", (unsigned)number, (unsigned)skeptolyr_refusal_place(answer), skeptolyr_refusal_text(number));
+}
+
+/* Asks by name what a field is and where its first point lies: in degrees that is where the description says, and on the sheet it is 0 and 0. The question
+ * that is not for the grid's kind is refused. */
+static int names_agree(size_t file_len, size_t k, uint32_t points)
+{
+    struct skeptolyr_field field;
+    struct skeptolyr_position position = {0, 0};
+    struct skeptolyr_sheet_place place = {1, 1};
+    uint64_t described = skeptolyr_describe_field(file, file_len, k, &field);
+    uint64_t in_degrees = skeptolyr_place_point(file, file_len, k, 0, &position), on_sheet = skeptolyr_sheet_point(file, file_len, k, 0, &place);
+    if (skeptolyr_is_refusal(described) || field.points != (int64_t)points)
+        return 0;
+    if (field.grid_template == 30)
+        return described == SKEPTOLYR_DESCRIPTION_LAMBERT && skeptolyr_refusal_number(in_degrees) == SKEPTOLYR_OTHER_GRID &&
+            on_sheet == SKEPTOLYR_SHEET_PLACE && place.right == 0 && place.down == 0;
+    return described == SKEPTOLYR_DESCRIPTION && skeptolyr_refusal_number(on_sheet) == SKEPTOLYR_OTHER_GRID && in_degrees == SKEPTOLYR_POSITION &&
+        position.latitude == field.first.latitude && position.longitude == field.first.longitude;
 }
 
 static void print_field(size_t file_len, size_t k)
@@ -31,6 +49,8 @@ static void print_field(size_t file_len, size_t k)
             printf(" missing");
     }
     printf("\n");
+    if (!names_agree(file_len, k, skeptolyr_points(answer)))
+        printf("the description and the places do not agree\n");
 }
 
 /* Asks for every field of the file, and for one more, which it does not have. */

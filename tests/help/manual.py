@@ -30,4 +30,4 @@ def structs():
 
 def refused(number, place):
     """What a program of ours says of a refusal."""
-    return 'refused %d at %d. %s' % (number, place, refusals()[number - 1][3])
+    return 'refused %d at %d. %s' % (number, place, next(text for _, other, _, text in refusals() if other == number))

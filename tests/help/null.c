@@ -35,5 +35,7 @@ int main(void)
     print_answer(skeptolyr_describe(file, length, 0, NULL, 0));
     print_answer(skeptolyr_place(NULL, 0, 0, 0, numbers, ROOM));
     print_answer(skeptolyr_place(file, length, 0, 0, NULL, 0));
+    print_answer(skeptolyr_sheet(NULL, 0, 0, 0, numbers, ROOM));
+    print_answer(skeptolyr_sheet(file, length, 0, 0, NULL, 0));
     return 0;
 }

@@ -1,5 +1,5 @@
-"""An independent reading of docs/RULES.md, from its paragraphs: check, describe, decode and place, in Python's own whole numbers, times and
-doubles; and the rows of numbers that C is given of a description and of a place."""
+"""An independent reading of docs/RULES.md, from its paragraphs: check, describe, decode, place and sheet, in Python's own whole numbers, times and
+doubles; and the rows of numbers that C is given of a description, of a place and of a place on the sheet."""
 import datetime
 import fractions
 import functools
@@ -10,6 +10,8 @@ LARGEST = 268435456
 FOLLOWS = {0: {1}, 1: {3}, 3: {4}, 4: {5}, 5: {6}, 6: {7}, 7: {3, 4}}
 UNITS = {0: 60, 1: 3600, 2: 86400}
 TURN = 360000000
+# The two kinds of grid, by their templates: 3.0 and 3.30.
+DEGREES, LAMBERT = 0, 30
 
 
 class Refused(Exception):
@@ -145,20 +147,56 @@ def span_east(first, last):
     return last[1] - first[1] + (TURN if last[1] < first[1] else 0)
 
 
+def latitude(s, first):
+    """The latitude in four octets, in millionths of a degree."""
+    found = s.signed(first, first + 3)
+    s.demand(abs(found) <= 90000000)
+    return found
+
+
+def longitude(s, first):
+    """The longitude in four octets, in millionths of a degree."""
+    found = s(first, first + 3)
+    s.demand(found < TURN)
+    return found
+
+
+def length_on_sheet(s, first):
+    """Dx or Dy in four octets, in thousandths of a metre."""
+    found = s(first, first + 3)
+    s.demand(1 <= found <= 2147483647)
+    return found
+
+
+def in_degrees(s):
+    """What section 3 says by template 3.0 alone."""
+    s.demand(s(39, 42) == 0 and s(43, 46) == 2 ** 32 - 1 and s(55) == 0x30 and s(72) == 0)
+    ni, nj, di, dj = s(31, 34), s(35, 38), s(64, 67), s(68, 71)
+    first, last = (latitude(s, 47), longitude(s, 51)), (latitude(s, 56), longitude(s, 60))
+    s.demand(first[0] >= last[0])
+    s.demand(abs(span_east(first, last) - (ni - 1) * di) <= ni - 1 and abs(first[0] - last[0] - (nj - 1) * dj) <= nj - 1)
+    return {'first': first, 'last': last, 'di': di, 'dj': dj, 'lambert': None}
+
+
+def on_sheet(s):
+    """What section 3 says by template 3.30 alone. It tells no last point and no steps in degrees: these are zeros."""
+    s.demand(s(47) == 0x08 and s(64) == s(65) == 0)
+    lambert = {
+        'stated_latitude': latitude(s, 48), 'upright_meridian': longitude(s, 52), 'dx': length_on_sheet(s, 56), 'dy': length_on_sheet(s, 60),
+        'cutting_latitude_1': latitude(s, 66), 'cutting_latitude_2': latitude(s, 70)}
+    return {'first': (latitude(s, 39), longitude(s, 43)), 'last': (0, 0), 'di': 0, 'dj': 0, 'lambert': lambert}
+
+
 def grid(file, stretch):
+    """What section 3 says, by the template and the length that go together."""
     s = Octets(file, stretch, 10)
-    s.demand(len(s) == 72 and s(6) == s(11) == s(12) == s(13, 14) == 0)
+    s.demand((s(13, 14), len(s)) in ((DEGREES, 72), (LAMBERT, 81)) and s(6) == s(11) == s(12) == 0)
     s.demand(s(15) == 6 or s(15) == 1 and s(16) == 0 and s(17, 20) not in (0, 2 ** 32 - 1))
     ni, nj = s(31, 34), s(35, 38)
     s.demand(1 <= ni <= 65535 and 1 <= nj <= 65535 and s(7, 10) == ni * nj <= 16777216)
-    s.demand(s(39, 42) == 0 and s(43, 46) == 2 ** 32 - 1 and s(55) == 0x30 and s(72) == 0)
-    first, last = (s.signed(47, 50), s(51, 54)), (s.signed(56, 59), s(60, 63))
-    for latitude, longitude in (first, last):
-        s.demand(abs(latitude) <= 90000000 and longitude < TURN)
-    s.demand(first[0] >= last[0])
-    di, dj = s(64, 67), s(68, 71)
-    s.demand(abs(span_east(first, last) - (ni - 1) * di) <= ni - 1 and abs(first[0] - last[0] - (nj - 1) * dj) <= nj - 1)
-    return {'earth': s(15), 'radius': 6371229 if s(15) == 6 else s(17, 20), 'ni': ni, 'nj': nj, 'first': first, 'last': last, 'di': di, 'dj': dj}
+    told = {'template': s(13, 14), 'earth': s(15), 'radius': 6371229 if s(15) == 6 else s(17, 20), 'ni': ni, 'nj': nj}
+    told.update(on_sheet(s) if told['template'] == LAMBERT else in_degrees(s))
+    return told
 
 
 def product(file, stretch, reference):
@@ -314,12 +352,26 @@ def position(g, n):
     return first[0] - distance(j, g['nj'], first[0] - last[0]), (first[1] + distance(i, g['ni'], span_east(first, last))) % TURN
 
 
-def place(file, k, n):
-    """The latitude and the longitude of point n of field k."""
+def grid_with(file, k, n, template):
+    """The grid of field k, which must be of this kind, 20, and have a point n, 17."""
     g = describe(file, k)['grid']
+    if g['template'] != template:
+        raise Refused(20, 0)
     if n >= g['ni'] * g['nj']:
         raise Refused(17, 0)
-    return position(g, n)
+    return g
+
+
+def place(file, k, n):
+    """The latitude and the longitude of point n of field k."""
+    return position(grid_with(file, k, n, DEGREES), n)
+
+
+def sheet(file, k, n):
+    """How far point n of field k lies to the right of the first point, and how far below it, in thousandths of a metre."""
+    g = grid_with(file, k, n, LAMBERT)
+    j, i = divmod(n, g['ni'])
+    return i * g['lambert']['dx'], j * g['lambert']['dy']
 
 
 # ---- what C is given
@@ -329,7 +381,7 @@ def time_numbers(time):
 
 
 def numbers(told):
-    """The 53 numbers of a description, in their order."""
+    """The numbers of a description, in their order: 53, and on a Lambert grid 7 more behind them."""
     g = told['grid']
     found = [told['discipline'], told['status'], *time_numbers(told['reference'])]
     found += [g['earth'], g['radius'], g['ni'], g['nj'], g['ni'] * g['nj'], *g['first'], *g['last'], g['di'], g['dj']]
@@ -337,7 +389,7 @@ def numbers(told):
     found += [0, 0, 0] if told['level'] is None else [1, *told['level']]
     found += [0] * 8 if told['product'] is None else [8, *time_numbers(told['product'][0]), told['product'][1]]
     found += [*time_numbers(told['valid']), told['n'], told['r'], told['e'], told['d'], told['bits'], told['template'], told['indicator']]
-    return found + told['starts']
+    return found + told['starts'] + ([g['template'], *g['lambert'].values()] if g['lambert'] else [])
 
 
 def in_run(found, length):
@@ -355,6 +407,11 @@ def describe_in_run(file, k, length):
 def place_in_run(file, k, n, length):
     """What skeptolyr_place is to put at the start of a run."""
     return in_run(list(place(file, k, n)), length)
+
+
+def sheet_in_run(file, k, n, length):
+    """What skeptolyr_sheet is to put at the start of a run."""
+    return in_run(list(sheet(file, k, n)), length)
 
 
 # ---- the listing

@@ -15,6 +15,7 @@ import subprocess
 import sys
 
 from samples import make, shapes
+from tests import fields
 from tests.help import SEED, grib, report
 from tests.peers import damage
 from tools import TOP, archive, debian
@@ -43,8 +44,10 @@ def say(what):
 
 def good_files():
     """The samples, and small files in the Agency's shapes."""
-    levels = shapes.pressure_levels(fields=3, ni=7, nj=5, present=20)
-    return list(make.samples().values()) + [grib.grouped(), damage.good_file(), levels, levels + grib.grouped(), grib.two_fields() * 3]
+    levels, lambert = shapes.pressure_levels(fields=3, ni=7, nj=5, present=20), fields.two_lambert_fields()
+    small = [grib.grouped(), damage.good_file(), levels, levels + grib.grouped(), grib.two_fields() * 3]
+    # Steps that are unlike each other make a picture whose points are unlike, too.
+    return list(make.samples().values()) + small + [lambert, lambert + grib.two_fields(), fields.lambert(5, 4, dx=1000, dy=1501)]
 
 
 def starts_of_sections(file):
@@ -300,16 +303,16 @@ def faults_of_misuse(watched):
 
 
 def reaches_everything(program, names):
-    """The damaged files are %d, no two alike. The command refuses files for every reason from 3 to 7, fields for every one from 9 to 14, and takes others."""
+    """The damaged files are %d, no two alike. Files are refused for each reason from 3 to 7, fields for each from 9 to 14, and others taken, of both kinds."""
     done = subprocess.run([program, 'ls', '--json', *names], cwd=FILES, stdout=subprocess.PIPE, stderr=subprocess.DEVNULL)
     listed = [file for file in json.loads(done.stdout) if file['file'].startswith('damaged-')]
     if len(listed) != DAMAGED:
         yield 'there are %d' % len(listed)
     everywhere = [file.get('refused') for file in listed] + [field.get('refused') for file in listed for field in file.get('fields', [])]
     met = {refused['number'] for refused in everywhere if refused}
-    taken = sum(1 for file in listed for field in file.get('fields', []) if 'refused' not in field)
-    if set(range(3, 15)) - {8} - met or taken < DAMAGED // 10:
-        yield 'refusals %s, and %d fields taken' % (sorted(met), taken)
+    taken = [field['grid_template'] for file in listed for field in file.get('fields', []) if 'refused' not in field]
+    if set(range(3, 15)) - {8} - met or len(taken) < DAMAGED // 10 or taken.count(30) < DAMAGED // 50:
+        yield 'refusals %s, and %d fields taken, %d of them on Lambert grids' % (sorted(met), len(taken), taken.count(30))
 
 
 # ---- the suite

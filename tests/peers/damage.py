@@ -1,7 +1,10 @@
-"""Damaged files, from the rules alone: one good file of three messages, and what can befall it. Each kind of damage has a name in plain words.
+"""Damaged files, from the rules alone: one good file of three messages, and what can befall it. Each kind of damage has a name in plain words. The good file
+is on a grid in degrees, and for damage that a Lambert grid alone can have it is on a Lambert grid.
 
 Where nothing else is said, the damage is in the middle message, so that a reader has a good message before it and another after it.
 """
+import sys
+
 from samples import shapes
 from tests.help import grib
 
@@ -43,6 +46,18 @@ def file_of(messages):
 
 def good_file():
     return file_of(good_messages())
+
+
+def lambert_section():
+    """A section 3 for the same points on the Agency's cone, further apart to the right than downward."""
+    return grib.section3_lambert(NI, NJ, (36000000, 135000000), 5000000, 4000000)
+
+
+def lambert_file(damaged=None):
+    """The good file on a Lambert grid. The middle message may have another section 3."""
+    messages = [sections[:FIRST[3]] + [lambert_section()] + sections[FIRST[3] + 1:] for sections in good_messages()]
+    messages[DAMAGED][FIRST[3]] = damaged or lambert_section()
+    return file_of(messages)
 
 
 def starts():
@@ -239,14 +254,43 @@ def meanings():
     ]
 
 
+def lambert_changed(octet, octets):
+    """Other octets in the Lambert section 3, from an octet of its own on."""
+    return lambert_file(grib.spliced(lambert_section(), octet - 1, octets))
+
+
+def sheets():
+    """Section 3 of a Lambert grid."""
+    section3 = lambert_section()
+    return [
+        ('Lambert: Ni is 9 and the points stay 48', lambert_changed(31, grib.number(9, 4))),
+        ('Lambert: the template says 3.0', lambert_changed(13, grib.number(0, 2))),
+        ('Lambert: section 3 is 9 octets short', lambert_file(grib.section(3, section3[5:-9]))),
+        ('Lambert: section 3 is 1 octet long', lambert_file(grib.section(3, section3[5:] + b'\xff'))),
+        ('Lambert: the first latitude is 100 degrees', lambert_changed(39, grib.signed(100000000, 4))),
+        ('Lambert: the upright meridian is 400 degrees', lambert_changed(52, grib.number(400000000, 4))),
+        ('Lambert: a cutting latitude is lost to ones', lambert_changed(66, b'\xff' * 4)),
+        ('Lambert: Dx is 0', lambert_changed(56, grib.number(0, 4))),
+        ('Lambert: Dx is 2^32 - 1', lambert_changed(56, b'\xff' * 4)),
+        ('Lambert: Dy is 2^31', lambert_changed(60, grib.number(2 ** 31, 4))),
+        ('Lambert: the scanning mode says upward', lambert_changed(65, b'\x40')),
+        ('Lambert: a bit of Dx is flipped', lambert_changed(59, bytes([section3[58] ^ 1]))),
+    ]
+
+
 GROUPS = [('The transfer', transfers), ('Section 0 and the end', heads), ('The order and the lengths of sections', tilings),
-          ('The bitmap and the count', bitmaps), ('The packing', packings), ('Time, grid and product', meanings)]
+          ('The bitmap and the count', bitmaps), ('The packing', packings), ('Time, grid and product', meanings), ('A Lambert grid', sheets)]
+
+
+def good_of(group):
+    """The good file that the files of a group were before they were damaged."""
+    return lambert_file() if dict(GROUPS)[group] is sheets else good_file()
 
 
 def kinds():
     """(group, name, file) of every kind of damage. Two kinds of one name, or a file that is not damaged, are a fault of this page."""
     found = [(group, name, file) for group, make in GROUPS for name, file in make()]
     names = {name for _, name, _ in found}
-    if len(names) < len(found) or any(file == good_file() for _, _, file in found):
+    if len(names) < len(found) or any(file == good_of(group) for group, _, file in found):
         sys.exit('damage: a kind of damage stands twice, or does no damage')
     return found

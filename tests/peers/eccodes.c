@@ -1,10 +1,11 @@
 /* Asks ecCodes for every field of each file of standard input (told.h), as its documentation says: with multi-field support on, one handle after the
  * other from a file, and the values and the keys of each handle. The file is lent to it as a stream in memory. Every return code is looked at.
  *
- * A field has 33 numbers: discipline; reference time, from year to second; Ni, Nj; first latitude and longitude, last latitude and longitude, in millionths of
- * a degree; Di, Dj; category, parameter; first surface, its scale factor and scaled value, each 2^64 - 1 where it is missing; product template; validity time,
- * from year to minute, which is the end of an interval; N; whether there is a bitmap; data template; R as a double; E, D, octet 20 of section 5. Under `partly`
- * the scanning mode is a 34th. */
+ * A field has 43 numbers: discipline; reference time, from year to second; grid template; shape of the earth, its radius; Ni, Nj; first latitude and
+ * longitude, in millionths of a degree; of a grid in degrees last latitude and longitude, Di, Dj; of a Lambert grid LaD, LoV, Dx, Dy, Latin1, Latin2; scanning
+ * mode; category, parameter; first surface, its scale factor and scaled value, each 2^64 - 1 where it is missing; product template; validity time, from year to
+ * minute, which is the end of an interval; N; whether there is a bitmap; data template; R as a double; E, D, octet 20 of section 5. What only another kind of
+ * grid has is told as 2^64 - 1. */
 #include "told.h"
 
 #include <eccodes.h>
@@ -18,15 +19,18 @@ struct key {
     int may_miss;
 };
 
+static const struct key keys_before_grid[] = {
+    {"discipline", 0}, {"year", 0}, {"month", 0}, {"day", 0}, {"hour", 0}, {"minute", 0}, {"second", 0}, {"gridDefinitionTemplateNumber", 0}, {NULL, 0}};
+static const struct key keys_of_any_grid[] = {
+    {"shapeOfTheEarth", 0}, {"radius", 0}, {"Ni", 0}, {"Nj", 0}, {"latitudeOfFirstGridPoint", 0}, {"longitudeOfFirstGridPoint", 0}, {NULL, 0}};
+static const struct key keys_of_degrees[] = {
+    {"latitudeOfLastGridPoint", 0}, {"longitudeOfLastGridPoint", 0}, {"iDirectionIncrement", 0}, {"jDirectionIncrement", 0}, {NULL, 0}};
+static const struct key keys_of_lambert[] = {{"LaD", 0}, {"LoV", 0}, {"Dx", 0}, {"Dy", 0}, {"Latin1", 0}, {"Latin2", 0}, {NULL, 0}};
 static const struct key keys_before_validity[] = {
-    {"discipline", 0}, {"year", 0}, {"month", 0}, {"day", 0}, {"hour", 0}, {"minute", 0}, {"second", 0}, {"Ni", 0}, {"Nj", 0},
-    {"latitudeOfFirstGridPoint", 0}, {"longitudeOfFirstGridPoint", 0}, {"latitudeOfLastGridPoint", 0}, {"longitudeOfLastGridPoint", 0},
-    {"iDirectionIncrement", 0}, {"jDirectionIncrement", 0}, {"parameterCategory", 0}, {"parameterNumber", 0}, {"typeOfFirstFixedSurface", 0},
+    {"scanningMode", 0}, {"parameterCategory", 0}, {"parameterNumber", 0}, {"typeOfFirstFixedSurface", 0},
     {"scaleFactorOfFirstFixedSurface", 1}, {"scaledValueOfFirstFixedSurface", 1}, {"productDefinitionTemplateNumber", 0}, {NULL, 0}};
 static const struct key keys_before_reference[] = {{"numberOfValues", 0}, {"bitmapPresent", 0}, {"dataRepresentationTemplateNumber", 0}, {NULL, 0}};
 static const struct key keys_after_reference[] = {{"binaryScaleFactor", 0}, {"decimalScaleFactor", 0}, {"bitsPerValue", 0}, {NULL, 0}};
-/* The key that only `partly` tells: where the rows begin. */
-static const struct key keys_of_damage[] = {{"scanningMode", 0}, {NULL, 0}};
 
 static int tell_keys(codes_handle *handle, const struct key *keys, struct told *told)
 {
@@ -39,6 +43,34 @@ static int tell_keys(codes_handle *handle, const struct key *keys, struct told *
         tell_number(told, (uint64_t)value);
     }
     return error;
+}
+
+/* The keys of the kinds of grid that this one is not. */
+static void tell_none(const struct key *keys, struct told *told)
+{
+    for (; keys->name != NULL; keys++)
+        tell_number(told, UINT64_MAX);
+}
+
+/* All that stands before the validity time: of the grid, what any has and what one of its kind has. */
+static int tell_grid(codes_handle *handle, struct told *told)
+{
+    char kind[32] = "";
+    size_t length = sizeof kind;
+    int error = tell_keys(handle, keys_before_grid, told), is_lambert;
+    if (error == CODES_SUCCESS)
+        error = codes_get_string(handle, "gridType", kind, &length);
+    if (error == CODES_SUCCESS)
+        error = tell_keys(handle, keys_of_any_grid, told);
+    if (error != CODES_SUCCESS)
+        return error;
+    is_lambert = strcmp(kind, "lambert") == 0;
+    if (is_lambert)
+        tell_none(keys_of_degrees, told);
+    error = tell_keys(handle, is_lambert ? keys_of_lambert : keys_of_degrees, told);
+    if (!is_lambert)
+        tell_none(keys_of_lambert, told);
+    return error == CODES_SUCCESS ? tell_keys(handle, keys_before_validity, told) : error;
 }
 
 /* The validity time: year, month, day, hour, minute. */
@@ -92,7 +124,7 @@ static int tell_values(codes_handle *handle, struct told *told)
 
 static int tell_field(codes_handle *handle, struct told *told)
 {
-    int error = tell_keys(handle, keys_before_validity, told);
+    int error = tell_grid(handle, told);
     if (error == CODES_SUCCESS)
         error = tell_validity(handle, told);
     if (error == CODES_SUCCESS)
@@ -101,8 +133,6 @@ static int tell_field(codes_handle *handle, struct told *told)
         error = tell_reference(handle, told);
     if (error == CODES_SUCCESS)
         error = tell_keys(handle, keys_after_reference, told);
-    if (error == CODES_SUCCESS && told->partly)
-        error = tell_keys(handle, keys_of_damage, told);
     if (error == CODES_SUCCESS)
         error = tell_values(handle, told);
     return error;

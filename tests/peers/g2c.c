@@ -2,7 +2,8 @@
  * fields, and g2_getfld unpacks and expands each. The file is lent to it as a stream in memory. Every return code is looked at; seekgb has none, and
  * finds no message where it finds no more.
  *
- * The numbers of a field are those of the templates 3.0 and 4.0 that `tell_numbers` lists; those of another template are told as 2^64 - 1. */
+ * The numbers of a field are those of the templates 3.0, 3.30 and 4.0 that `tell_numbers` and `tell_grid` list; those of another template are told as
+ * 2^64 - 1. */
 #include "told.h"
 
 #include <grib2.h>
@@ -15,16 +16,25 @@ static void tell_entry(struct told *told, const g2int *template, g2int length, i
     tell_number(told, entry < length ? (uint64_t)template[entry] : UINT64_MAX);
 }
 
-/* Discipline; reference time; grid: Ni, Nj, first place, last place, Di, Dj, scanning mode; category, parameter, unit, forecast, surface, level. */
+/* Ni, Nj, first place and scanning mode; then of a grid in degrees last place, Di, Dj, and of a Lambert grid LaD, LoV, Dx, Dy, Latin1, Latin2. */
+static void tell_grid(const gribfield *field, struct told *told)
+{
+    enum { NUMBERS = 11, NONE = 1000 };
+    static const int degrees[NUMBERS] = {7, 8, 11, 12, 18, 14, 15, 16, 17, NONE, NONE}, lambert[NUMBERS] = {7, 8, 9, 10, 17, 12, 13, 14, 15, 18, 19};
+    int is_read = field->igdtnum == 0 || field->igdtnum == 30;
+    tell_number(told, (uint64_t)field->igdtnum);
+    for (int i = 0; i < NUMBERS; i++)
+        tell_entry(told, field->igdtmpl, is_read ? field->igdtlen : 0, field->igdtnum == 30 ? lambert[i] : degrees[i]);
+}
+
+/* Discipline; reference time; grid; category, parameter, unit, forecast, surface, level. */
 static void tell_numbers(const gribfield *field, struct told *told)
 {
-    static const int grid[] = {7, 8, 11, 12, 14, 15, 16, 17, 18}, product[] = {0, 1, 7, 8, 9, 10, 11};
+    static const int product[] = {0, 1, 7, 8, 9, 10, 11};
     tell_number(told, (uint64_t)field->discipline);
     for (int i = 5; i < 11; i++)
         tell_entry(told, field->idsect, field->idsectlen, i);
-    tell_number(told, (uint64_t)field->igdtnum);
-    for (size_t i = 0; i < sizeof grid / sizeof *grid; i++)
-        tell_entry(told, field->igdtmpl, field->igdtnum == 0 ? field->igdtlen : 0, grid[i]);
+    tell_grid(field, told);
     tell_number(told, (uint64_t)field->ipdtnum);
     for (size_t i = 0; i < sizeof product / sizeof *product; i++)
         tell_entry(told, field->ipdtmpl, field->ipdtnum == 0 ? field->ipdtlen : 0, product[i]);

@@ -24,8 +24,8 @@ MEMORY = 1 << 30
 OWN_FAULT = 2
 HERE = os.path.dirname(os.path.abspath(__file__))
 COMPILER = ['gcc', *archive.FLAGS, '-O2']
-# How many numbers Skeptolyr describes a field by.
-DESCRIPTION = 53
+# How many numbers Skeptolyr describes a field by: on a grid in degrees, and on a Lambert grid.
+DEGREES, DESCRIPTION = 53, 60
 
 Told = collections.namedtuple('Told', 'fields errors printed ended')
 Field = collections.namedtuple('Field', 'thing says doubles presence')
@@ -113,8 +113,8 @@ class Skeptolyr(Program):
     """The archive that users link."""
 
     def __init__(self, given):
-        # The status, the kind of process, and all from N on are not compared: the last six are places of one file only.
-        super().__init__('Skeptolyr', None, None, 'skeptolyr', [], DESCRIPTION, {1, 21, *range(40, DESCRIPTION)})
+        # The status, the kind of process, and all from N to where the sections start are not compared: these are places of one file only.
+        super().__init__('Skeptolyr', None, None, 'skeptolyr', [], DESCRIPTION, {1, 21, *range(40, DEGREES)})
         self.given = given
 
     def make(self):
@@ -125,8 +125,9 @@ class Skeptolyr(Program):
             self.command = archive.program('skeptolyr', os.path.join('tests', 'peers', 'skeptolyr.c'))
 
     def sayings(self, numbers):
-        """What is compared of a description's numbers, as told.h has them."""
-        return [number % 2 ** 64 for at, number in enumerate(numbers) if at not in self.packing]
+        """What is compared of a description's numbers, as told.h has them, with zeros for those that a grid in degrees lacks."""
+        whole = [*numbers, *[0] * (DESCRIPTION - len(numbers))]
+        return [number % 2 ** 64 for at, number in enumerate(whole) if at not in self.packing]
 
 
 # ---- GDAL, through its commands
@@ -190,8 +191,8 @@ def band_values(band, missing):
 
 
 def peers():
-    return [Program('ecCodes', 'libeccodes-dev', 'eccodes.h', 'eccodes', ['-leccodes'], 34, range(26, 33)),
-            Program('g2c', 'libg2c-dev', 'grib2.h', 'g2c', ['-lg2c'], 25), Gdal()]
+    return [Program('ecCodes', 'libeccodes-dev', 'eccodes.h', 'eccodes', ['-leccodes'], 43, range(36, 43)),
+            Program('g2c', 'libg2c-dev', 'grib2.h', 'g2c', ['-lg2c'], 27), Gdal()]
 
 
 # ---- installing

@@ -1,5 +1,6 @@
 /* Asks Skeptolyr for every field of each file of standard input (told.h): check, and where it accepts the file, describe and decode of every field. An error
- * is the answer of one of them, which holds the refusal's number and its place. The numbers of a field are those of its description. */
+ * is the answer of one of them, which holds the refusal's number and its place. The numbers of a field are those of its description, with zeros behind them
+ * where its grid is in degrees. */
 #include "told.h"
 
 #include "skeptolyr.h"
@@ -12,8 +13,8 @@ static uint8_t *presence;
 
 static void tell_field(struct file file, size_t k, struct told *told)
 {
-    int64_t numbers[SKEPTOLYR_DESCRIPTION];
-    uint64_t answer = skeptolyr_describe(file.octets, file.length, k, numbers, SKEPTOLYR_DESCRIPTION);
+    int64_t numbers[SKEPTOLYR_DESCRIPTION_LAMBERT] = {0};
+    uint64_t answer = skeptolyr_describe(file.octets, file.length, k, numbers, SKEPTOLYR_DESCRIPTION_LAMBERT);
     if (!skeptolyr_is_refusal(answer))
         answer = skeptolyr_decode(file.octets, file.length, k, 0, values, MOST_POINTS, presence, MOST_POINTS);
     begin(told);
@@ -21,7 +22,7 @@ static void tell_field(struct file file, size_t k, struct told *told)
         end(told, answer);
         return;
     }
-    for (int i = 0; i < SKEPTOLYR_DESCRIPTION; i++)
+    for (int i = 0; i < SKEPTOLYR_DESCRIPTION_LAMBERT; i++)
         tell_number(told, (uint64_t)numbers[i]);
     tell_number(told, answer);
     for (uint64_t i = 0; i < answer; i++)

@@ -18,7 +18,7 @@ impl GridPoint {
     }
 }
 
-/// The grid of section 3; the radius is in metres.
+/// The grid of section 3: what every grid has, and what only its kind has. The radius is in metres.
 #[derive(Clone, Copy, PartialEq, Eq, Debug)]
 pub struct Grid {
     pub earth_code: u8,
@@ -26,9 +26,31 @@ pub struct Grid {
     pub ni: u32,
     pub nj: u32,
     pub first: GridPoint,
+    pub kind: GridKind,
+}
+
+#[derive(Clone, Copy, PartialEq, Eq, Debug)]
+pub enum GridKind {
+    Degrees(Degrees),
+    Lambert(Lambert),
+}
+
+/// What a grid in degrees has of its own.
+#[derive(Clone, Copy, PartialEq, Eq, Debug)]
+pub struct Degrees {
     pub last: GridPoint,
     pub di: u32,
     pub dj: u32,
+}
+
+/// What a Lambert grid has of its own: angles in millionths of a degree, and lengths on its sheet in thousandths of a metre.
+#[derive(Clone, Copy, PartialEq, Eq, Debug)]
+pub struct Lambert {
+    pub stated_latitude: i64,
+    pub upright_meridian: u32,
+    pub dx: u32,
+    pub dy: u32,
+    pub cutting_latitudes: [i64; 2],
 }
 
 impl Grid {
@@ -36,20 +58,53 @@ impl Grid {
         u64::from(self.ni) * u64::from(self.nj)
     }
 
-    /// Behind Ni and Nj stands the point count.
+    /// Behind Ni and Nj stands the point count. A Lambert grid has neither a last point nor steps in degrees, and zeros stand in their places.
     fn numbers(&self) -> Vec<i64> {
         let sizes = [i64::from(self.earth_code), i64::from(self.radius), i64::from(self.ni), i64::from(self.nj), self.points() as i64];
-        let steps = [self.di, self.dj].map(i64::from);
-        [&sizes[..], &self.first.numbers(), &self.last.numbers(), &steps].concat()
+        let of_its_kind = match self.kind {
+            GridKind::Degrees(degrees) => degrees.numbers(),
+            GridKind::Lambert(_) => [0; 4],
+        };
+        [&sizes[..], &self.first.numbers(), &of_its_kind].concat()
     }
 
-    /// The latitude and longitude of a point below the point count. Both are worked out from the first point and the last, not from Di and Dj.
-    pub fn place(&self, n: u64) -> (i64, u32) {
-        let (column, row) = (n % u64::from(self.ni), n / u64::from(self.ni));
-        let south = distance(self.first.latitude - self.last.latitude, row, self.nj);
-        let east = distance(span_east(self.first, self.last), column, self.ni);
+    /// The numbers behind all others of a description, which only a field on a Lambert grid has.
+    fn last_numbers(&self) -> Vec<i64> {
+        match self.kind {
+            GridKind::Degrees(_) => vec![],
+            GridKind::Lambert(lambert) => lambert.numbers().to_vec(),
+        }
+    }
+
+    /// The latitude and longitude of the point in a column and a row. Both are worked out from the first point and the last, not from Di and Dj.
+    pub fn place(&self, degrees: Degrees, column: u64, row: u64) -> (i64, u32) {
+        let south = distance(self.first.latitude - degrees.last.latitude, row, self.nj);
+        let east = distance(span_east(self.first, degrees.last), column, self.ni);
         let longitude = (i64::from(self.first.longitude) + east) % FULL_TURN;
         (self.first.latitude - south, longitude as u32)
+    }
+}
+
+impl Degrees {
+    fn numbers(self) -> [i64; 4] {
+        let [latitude, longitude] = self.last.numbers();
+        let [di, dj] = [self.di, self.dj].map(i64::from);
+        [latitude, longitude, di, dj]
+    }
+}
+
+impl Lambert {
+    /// The first number is the template's.
+    fn numbers(self) -> [i64; 7] {
+        let [dx, dy] = [self.dx, self.dy].map(i64::from);
+        let [cutting, other_cutting] = self.cutting_latitudes;
+        [30, self.stated_latitude, i64::from(self.upright_meridian), dx, dy, cutting, other_cutting]
+    }
+
+    /// How far to the right of the first point and how far below it the point in a column and a row lies on the sheet.
+    pub fn place(self, column: u64, row: u64) -> (i64, i64) {
+        let (right, down) = (column * u64::from(self.dx), row * u64::from(self.dy));
+        (right as i64, down as i64)
     }
 }
 
@@ -179,7 +234,7 @@ impl Description {
         }
     }
 
-    /// The whole description as the 53 numbers that C is given.
+    /// The whole description as the numbers that C is given: 53 on a grid in degrees, and 60 on a Lambert grid.
     pub fn numbers(&self) -> Vec<i64> {
         let mut numbers = vec![i64::from(self.discipline), i64::from(self.status)];
         numbers.extend(time_numbers(self.reference_time));
@@ -192,6 +247,7 @@ impl Description {
         numbers.extend([i64::from(self.bits), i64::from(self.data_template), i64::from(self.bitmap_indicator)]);
         let starts = &self.starts;
         numbers.extend([starts.section_1, starts.section_3, starts.section_4, starts.section_5, starts.section_6, starts.section_7].map(i64::from));
+        numbers.extend(self.grid.last_numbers());
         numbers
     }
 }

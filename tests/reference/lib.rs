@@ -18,7 +18,7 @@ mod tests;
 mod tiling;
 
 pub use calendar::Time;
-pub use description::{Description, Grid, GridPoint, IntervalKind, Level, Product, SectionStarts};
+pub use description::{Degrees, Description, Grid, GridKind, GridPoint, IntervalKind, Lambert, Level, Product, SectionStarts};
 pub use exact::rebuild;
 pub use listing::listing;
 pub use nearness::near_enough;
@@ -98,13 +98,30 @@ pub fn describe(file: &[u8], k: u64) -> Result<Description, Refusal> {
     Ok(open_in_file(file, k)?.description)
 }
 
-/// Gives the latitude and longitude of point n of field k, in millionths of a degree.
+/// Gives the latitude and longitude of point n of field k, in millionths of a degree. A Lambert grid has no such places.
 pub fn place(file: &[u8], k: u64, n: u64) -> Result<(i64, u32), Refusal> {
     let grid = open_in_file(file, k)?.description.grid;
+    match grid.kind {
+        GridKind::Degrees(degrees) => column_and_row(&grid, n).map(|(column, row)| grid.place(degrees, column, row)),
+        GridKind::Lambert(_) => Err(Refusal::without_place(20)),
+    }
+}
+
+/// Gives how far point n of field k lies to the right of the first point and below it, in thousandths of a metre on the sheet of a Lambert grid.
+pub fn sheet(file: &[u8], k: u64, n: u64) -> Result<(i64, i64), Refusal> {
+    let grid = open_in_file(file, k)?.description.grid;
+    match grid.kind {
+        GridKind::Lambert(lambert) => column_and_row(&grid, n).map(|(column, row)| lambert.place(column, row)),
+        GridKind::Degrees(_) => Err(Refusal::without_place(20)),
+    }
+}
+
+/// The column and the row of point n, if the grid has so many points.
+fn column_and_row(grid: &Grid, n: u64) -> Result<(u64, u64), Refusal> {
     if n >= grid.points() {
         return Err(Refusal::without_place(17));
     }
-    Ok(grid.place(n))
+    Ok((n % u64::from(grid.ni), n / u64::from(grid.ni)))
 }
 
 /// Puts the numbers of a description at the start of a run, and answers how many they are.
@@ -116,6 +133,12 @@ pub fn describe_into(file: &[u8], k: u64, numbers: &mut [i64]) -> Result<u64, Re
 pub fn place_into(file: &[u8], k: u64, n: u64, position: &mut [i64]) -> Result<u64, Refusal> {
     let (latitude, longitude) = place(file, k, n)?;
     put_numbers(&[latitude, i64::from(longitude)], position)
+}
+
+/// Puts how far a point lies to the right and downward on the sheet at the start of a run, and answers how many numbers these are.
+pub fn sheet_into(file: &[u8], k: u64, n: u64, sheet_place: &mut [i64]) -> Result<u64, Refusal> {
+    let (right, down) = sheet(file, k, n)?;
+    put_numbers(&[right, down], sheet_place)
 }
 
 /// Puts numbers at the start of a run, unless it has no room for all of them. What lies behind them stays.

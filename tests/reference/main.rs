@@ -5,7 +5,7 @@ use std::process::exit;
 
 use reference::{Description, Refusal};
 
-const USAGE: &str = "usage: reference check | describe K | place K N | decode K START VALUES_LENGTH PRESENCE_LENGTH | rebuild R_HEX E D X | list
+const USAGE: &str = "usage: reference check | describe K | place K N | sheet K N | decode K START VALUES_LENGTH PRESENCE_LENGTH | rebuild R_HEX E D X | list
 Every question but rebuild reads a file on standard input.";
 
 /// What stays in an element that the decoder leaves alone, so that the print shows it.
@@ -30,6 +30,7 @@ fn answer(words: &[&str]) -> Result<String, String> {
         ["check"] => Ok(check(&standard_input()?)),
         ["describe", k] => Ok(describe(&standard_input()?, number(k)?)),
         ["place", k, n] => Ok(place(&standard_input()?, number(k)?, number(n)?)),
+        ["sheet", k, n] => Ok(sheet(&standard_input()?, number(k)?, number(n)?)),
         ["decode", k, start, values_length, presence_length] => {
             decode(&standard_input()?, number(k)?, number(start)?, number(values_length)?, number(presence_length)?)
         }
@@ -71,7 +72,7 @@ fn describe(file: &[u8], k: u64) -> String {
     }
 }
 
-/// The description in words, then its 53 numbers on one line.
+/// The description in words, then its numbers on one line.
 fn described(description: &Description) -> String {
     let numbers: Vec<String> = description.numbers().iter().map(i64::to_string).collect();
     format!("{:#?}\nnumbers {}\n", description, numbers.join(" "))
@@ -80,6 +81,13 @@ fn described(description: &Description) -> String {
 fn place(file: &[u8], k: u64, n: u64) -> String {
     match reference::place(file, k, n) {
         Ok((latitude, longitude)) => format!("latitude {} longitude {}\n", latitude, longitude),
+        Err(refusal) => refused(refusal),
+    }
+}
+
+fn sheet(file: &[u8], k: u64, n: u64) -> String {
+    match reference::sheet(file, k, n) {
+        Ok((right, down)) => format!("right {} down {}\n", right, down),
         Err(refusal) => refused(refusal),
     }
 }

@@ -1,7 +1,7 @@
 //! The sections in force: identification (1), grid (3) and product (4). A section that breaks a rule gives no answer.
 
 use crate::calendar::{seconds_in_unit, Time};
-use crate::description::{Grid, GridPoint, IntervalKind, Level, Product};
+use crate::description::{Degrees, Grid, GridKind, GridPoint, IntervalKind, Lambert, Level, Product};
 use crate::octets::{require, Section};
 
 const ALL_ONES_IN_4_OCTETS: u64 = 0xFFFF_FFFF;
@@ -27,24 +27,49 @@ pub fn identification(section: Section<'_>) -> Option<Identification> {
     Some(Identification { status, reference_time })
 }
 
+/// The grid: a length goes with one template only.
 pub fn grid(section: Section<'_>) -> Option<Grid> {
-    require(section.length() == 72)?;
+    match (section.length(), section.unsigned(13, 14)) {
+        (72, 0) => grid_in_degrees(section),
+        (81, 30) => lambert_grid(section),
+        _ => None,
+    }
+}
+
+fn grid_in_degrees(section: Section<'_>) -> Option<Grid> {
+    let first = grid_point(section, 47)?;
+    let last = grid_point(section, 56)?;
+    let (di, dj) = (section.unsigned(64, 67), section.unsigned(68, 71));
+    let grid = grid_of_kind(section, first, GridKind::Degrees(Degrees { last, di: di as u32, dj: dj as u32 }))?;
+    require(section.unsigned(39, 42) == 0 && section.unsigned(43, 46) == ALL_ONES_IN_4_OCTETS)?;
+    require(section.octet(55) == 0x30 && section.octet(72) == 0)?;
+    require(span_fits(span_east(first, last), grid.ni, di))?;
+    require(first.latitude >= last.latitude)?;
+    require(span_fits(first.latitude - last.latitude, grid.nj, dj))?;
+    Some(grid)
+}
+
+fn lambert_grid(section: Section<'_>) -> Option<Grid> {
+    require(section.octet(47) == 0x08)?;
+    let (stated_latitude, upright_meridian) = (latitude(section, 48)?, longitude(section, 52)?);
+    let (dx, dy) = (section.unsigned(56, 59), section.unsigned(60, 63));
+    require((1..=LARGEST_31_BITS).contains(&dx))?;
+    require((1..=LARGEST_31_BITS).contains(&dy))?;
+    require(section.octet(64) == 0)?;
+    require(section.octet(65) == 0)?;
+    let cutting_latitudes = [latitude(section, 66)?, latitude(section, 70)?];
+    let lambert = Lambert { stated_latitude, upright_meridian, dx: dx as u32, dy: dy as u32, cutting_latitudes };
+    grid_of_kind(section, grid_point(section, 39)?, GridKind::Lambert(lambert))
+}
+
+/// The grid with what both templates have in the same octets, and with what its own template has.
+fn grid_of_kind(section: Section<'_>, first: GridPoint, kind: GridKind) -> Option<Grid> {
     require(section.octet(6) == 0 && section.octet(11) == 0 && section.octet(12) == 0)?;
-    require(section.unsigned(13, 14) == 0)?;
     let radius = radius(section)?;
     let (ni, nj) = (section.unsigned(31, 34), section.unsigned(35, 38));
     require((1..=65_535).contains(&ni) && (1..=65_535).contains(&nj))?;
     require(section.unsigned(7, 10) == ni * nj && ni * nj <= MOST_POINTS)?;
-    require(section.unsigned(39, 42) == 0 && section.unsigned(43, 46) == ALL_ONES_IN_4_OCTETS)?;
-    require(section.octet(55) == 0x30 && section.octet(72) == 0)?;
-    let first = grid_point(section, 47)?;
-    let last = grid_point(section, 56)?;
-    let (di, dj) = (section.unsigned(64, 67), section.unsigned(68, 71));
-    require(span_fits(span_east(first, last), ni, di))?;
-    require(first.latitude >= last.latitude)?;
-    require(span_fits(first.latitude - last.latitude, nj, dj))?;
-    let earth_code = section.octet(15);
-    Some(Grid { earth_code, radius: radius as u32, ni: ni as u32, nj: nj as u32, first, last, di: di as u32, dj: dj as u32 })
+    Some(Grid { earth_code: section.octet(15), radius: radius as u32, ni: ni as u32, nj: nj as u32, first, kind })
 }
 
 /// The earth's radius in metres: stated with code 1, fixed with code 6.
@@ -62,11 +87,19 @@ fn radius(section: Section<'_>) -> Option<u64> {
 
 /// The latitude in four octets from the given one on, and the longitude in the next four.
 fn grid_point(section: Section<'_>, octet: usize) -> Option<GridPoint> {
+    Some(GridPoint { latitude: latitude(section, octet)?, longitude: longitude(section, octet + 4)? })
+}
+
+fn latitude(section: Section<'_>, octet: usize) -> Option<i64> {
     let latitude = section.sign_and_size(octet, octet + 3);
-    let longitude = section.unsigned(octet + 4, octet + 7);
     require((-90_000_000..=90_000_000).contains(&latitude))?;
+    Some(latitude)
+}
+
+fn longitude(section: Section<'_>, octet: usize) -> Option<u32> {
+    let longitude = section.unsigned(octet, octet + 3);
     require(longitude <= 359_999_999)?;
-    Some(GridPoint { latitude, longitude: longitude as u32 })
+    Some(longitude as u32)
 }
 
 /// How far the last longitude lies east of the first.
@@ -80,7 +113,7 @@ pub fn span_east(first: GridPoint, last: GridPoint) -> i64 {
 }
 
 /// Whether a span differs from that of so many steps by at most one millionth a step.
-fn span_fits(span: i64, count: u64, step: u64) -> bool {
+fn span_fits(span: i64, count: u32, step: u64) -> bool {
     let steps = i128::from(count) - 1;
     (i128::from(span) - steps * i128::from(step)).abs() <= steps
 }

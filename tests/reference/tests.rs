@@ -102,6 +102,53 @@ fn section_3(grid: StatedGrid) -> Vec<u8> {
     section
 }
 
+/// The numbers of a Lambert grid, as a file states them.
+#[derive(Clone, Copy)]
+struct StatedLambert {
+    ni: u32,
+    nj: u32,
+    points: u32,
+    first: (i64, u32),
+    stated_latitude: i64,
+    upright_meridian: u32,
+    dx: u32,
+    dy: u32,
+    cutting_latitudes: (i64, i64),
+}
+
+/// So many columns and rows, 5 km apart to the right and 4 km downward.
+fn stated_lambert(ni: u32, nj: u32) -> StatedLambert {
+    StatedLambert {
+        ni,
+        nj,
+        points: ni.wrapping_mul(nj),
+        first: (44_137_789, 102_008_758),
+        stated_latitude: 30_000_000,
+        upright_meridian: 140_000_000,
+        dx: 5_000_000,
+        dy: 4_000_000,
+        cutting_latitudes: (60_000_000, 30_000_000),
+    }
+}
+
+fn section_3_lambert(grid: StatedLambert) -> Vec<u8> {
+    let mut section = blank(81, 3);
+    put(&mut section, 7, &grid.points.to_be_bytes());
+    put(&mut section, 14, &[30, 6]);
+    put(&mut section, 31, &grid.ni.to_be_bytes());
+    put(&mut section, 35, &grid.nj.to_be_bytes());
+    put(&mut section, 39, &signed_octets(grid.first.0));
+    put(&mut section, 43, &grid.first.1.to_be_bytes());
+    put(&mut section, 47, &[0x08]);
+    put(&mut section, 48, &signed_octets(grid.stated_latitude));
+    put(&mut section, 52, &grid.upright_meridian.to_be_bytes());
+    put(&mut section, 56, &grid.dx.to_be_bytes());
+    put(&mut section, 60, &grid.dy.to_be_bytes());
+    put(&mut section, 66, &signed_octets(grid.cutting_latitudes.0));
+    put(&mut section, 70, &signed_octets(grid.cutting_latitudes.1));
+    section
+}
+
 /// Temperature at 10 m, so many hours ahead.
 fn section_4_instant(hours: u32) -> Vec<u8> {
     let mut section = blank(34, 4);
@@ -230,6 +277,16 @@ impl OneField {
         OneField::simple().with(3, section_3(grid)).with(5, section_5_simple(grid.points, 0)).with(7, section(7, &[]))
     }
 
+    /// The same four values as the simple field has, on a Lambert grid.
+    fn lambert() -> OneField {
+        OneField::simple().with(3, section_3_lambert(stated_lambert(2, 2)))
+    }
+
+    /// All points present on a Lambert grid, of 0 bits each.
+    fn on_lambert(grid: StatedLambert) -> OneField {
+        OneField::simple().with(3, section_3_lambert(grid)).with(5, section_5_simple(grid.points, 0)).with(7, section(7, &[]))
+    }
+
     fn index(number: usize) -> usize {
         if number == 1 {
             0
@@ -273,7 +330,7 @@ impl OneField {
         describe(&self.file(), 0).is_ok()
     }
 
-    /// Asserts that describe, decode, place, presence and integers all refuse by this number, at that section, also where a run has no room.
+    /// Asserts that describe, decode, place, sheet, presence and integers all refuse by this number, at that section, also where a run has no room.
     fn refused_by(&self, number: u32, section: usize, what: &str) {
         let file = self.file();
         let refusal = Refusal { number, place: self.start(section) };
@@ -283,6 +340,8 @@ impl OneField {
         assert_eq!(place(&file, 0, u64::MAX), Err(refusal), "{}", what);
         assert_eq!(describe_into(&file, 0, &mut []), Err(refusal), "{}", what);
         assert_eq!(place_into(&file, 0, u64::MAX, &mut []), Err(refusal), "{}", what);
+        assert_eq!(sheet(&file, 0, u64::MAX), Err(refusal), "{}", what);
+        assert_eq!(sheet_into(&file, 0, u64::MAX, &mut []), Err(refusal), "{}", what);
         assert_eq!(presence(&file, 0), Err(refusal), "{}", what);
         assert_eq!(integers(&file, 0), Err(refusal), "{}", what);
     }
@@ -486,6 +545,66 @@ fn places_never_step_back_or_pass_the_last() {
     }
 }
 
+/// How far the points lie to the right and downward, point by point.
+fn sheet_places(grid: StatedLambert) -> Vec<(i64, i64)> {
+    let file = OneField::on_lambert(grid).file();
+    (0..u64::from(grid.points)).map(|n| sheet(&file, 0, n).expect("a point of the grid")).collect()
+}
+
+#[test]
+fn places_on_the_sheet() {
+    let grid = StatedLambert { dx: 7, dy: 100, ..stated_lambert(3, 2) };
+    assert_eq!(sheet_places(grid), [(0, 0), (7, 0), (14, 0), (0, 100), (7, 100), (14, 100)]);
+    assert_eq!(sheet_places(StatedLambert { dx: 7, dy: 100, ..stated_lambert(2, 3) }), [(0, 0), (7, 0), (0, 100), (7, 100), (0, 200), (7, 200)]);
+    assert_eq!(sheet_places(stated_lambert(1, 1)), [(0, 0)]);
+    let file = OneField::on_lambert(stated_lambert(817, 661)).file();
+    assert_eq!(sheet(&file, 0, 816), Ok((4_080_000_000, 0)));
+    assert_eq!(sheet(&file, 0, 817), Ok((0, 4_000_000)));
+    assert_eq!(sheet(&file, 0, 540_036), Ok((4_080_000_000, 2_640_000_000)));
+    assert_eq!(sheet(&file, 0, 540_037), Err(refused(17, 0)));
+    assert_eq!(sheet(&file, 0, u64::MAX), Err(refused(17, 0)));
+}
+
+#[test]
+fn places_on_the_sheet_do_not_depend_on_where_it_lies() {
+    let grid = StatedLambert { dx: 7, dy: 100, ..stated_lambert(3, 2) };
+    let south = StatedLambert { first: (-90_000_000, 359_999_999), cutting_latitudes: (-90_000_000, -45_000_000), ..grid };
+    assert_eq!(sheet_places(StatedLambert { stated_latitude: -1, upright_meridian: 0, ..south }), sheet_places(grid));
+}
+
+#[test]
+fn places_on_the_largest_sheets() {
+    let longest = StatedLambert { dx: 2_147_483_647, dy: 2_147_483_647, ..stated_lambert(65_535, 256) };
+    let wide = OneField::on_lambert(longest).file();
+    assert_eq!(sheet(&wide, 0, 65_534), Ok((140_733_193_322_498, 0)));
+    assert_eq!(sheet(&wide, 0, 16_776_959), Ok((140_733_193_322_498, 547_608_329_985)));
+    let high = OneField::on_lambert(StatedLambert { ni: 256, nj: 65_535, ..longest }).file();
+    assert_eq!(sheet(&high, 0, 16_776_959), Ok((547_608_329_985, 140_733_193_322_498)));
+    let shortest = StatedLambert { dx: 1, dy: 1, ..stated_lambert(2, 2) };
+    assert_eq!(sheet_places(shortest), [(0, 0), (1, 0), (0, 1), (1, 1)]);
+}
+
+#[test]
+fn a_grid_of_the_other_kind_has_no_such_places() {
+    let (degrees, lambert) = (OneField::simple().file(), OneField::lambert().file());
+    for n in [0, 3, 4, u64::MAX] {
+        assert_eq!((place(&lambert, 0, n), sheet(&degrees, 0, n)), (Err(refused(20, 0)), Err(refused(20, 0))), "point {}", n);
+        for length in 0..=3 {
+            let mut run = untouched(length);
+            assert_eq!((place_into(&lambert, 0, n, &mut run), &run), (Err(refused(20, 0)), &untouched(length)), "point {}", n);
+            assert_eq!((sheet_into(&degrees, 0, n, &mut run), &run), (Err(refused(20, 0)), &untouched(length)), "point {}", n);
+        }
+    }
+    assert_eq!((place(&lambert, 1, 0), sheet(&degrees, 1, 0)), (Err(refused(8, 0)), Err(refused(8, 0))));
+    assert_eq!((place(&degrees, 0, 3), sheet(&lambert, 0, 3)), (Ok((35_950_000, 135_062_500)), Ok((5_000_000, 4_000_000))));
+    let both = [degrees, lambert].concat();
+    let numbers = |answer: Result<u64, Refusal>| answer.map_err(|refusal| refusal.number);
+    let (mut position, mut sheet_place) = ([0; 2], [0; 2]);
+    assert_eq!([0, 1].map(|k| numbers(place_into(&both, k, 3, &mut position))), [Ok(2), Err(20)]);
+    assert_eq!([0, 1].map(|k| numbers(sheet_into(&both, k, 3, &mut sheet_place))), [Err(20), Ok(2)]);
+    assert_eq!((position, sheet_place), ([35_950_000, 135_062_500], [5_000_000, 4_000_000]));
+}
+
 #[test]
 fn example_presence() {
     assert_eq!(presence(&sample(), 0), Ok(vec![1, 0, 1, 0]));
@@ -523,6 +642,8 @@ fn listing_of_refused_fields_and_inputs() {
     let with_bad_bitmap = [OneField::simple().altered(6, 6, &[1]).file(), OneField::simple().file()].concat();
     assert_eq!(listing(&with_bad_bitmap), "2 fields\n0 refused 13 at 164\n1 0/0/0 103 2x2 20170515130000 4\n");
     assert_eq!(listing(&OneField::simple().file()), "1 fields\n0 0/0/0 103 2x2 20170515130000 4\n");
+    let lambert = [OneField::on_lambert(stated_lambert(817, 661)), OneField::lambert().altered(3, 47, &[0])].map(|field| field.file()).concat();
+    assert_eq!(listing(&lambert), "2 fields\n0 0/0/0 103 817x661 20170515130000 540037\n1 refused 10 at 225\n");
     assert_eq!(listing(&[]), "refused 2 at 0\n");
     assert_eq!(listing(&[0; 65_536]), "refused 4 at 0\n");
     assert_eq!(listing(&[0; 65_537]), "refused 18 at 65536\n");
@@ -571,6 +692,34 @@ fn description_tells_each_octet_in_its_own_number() {
 }
 
 #[test]
+fn description_of_a_lambert_grid() {
+    let lengths = StatedLambert { dx: 13, dy: 14, ..stated_lambert(5, 2) };
+    let grid = StatedLambert { stated_latitude: 11, upright_meridian: 12, cutting_latitudes: (15, 16), first: (17, 18), ..lengths };
+    let field = OneField::on_lambert(grid).altered(3, 15, &[1, 0, 0, 0, 1, 2]);
+    let numbers = describe(&field.file(), 0).map(|description| description.numbers()).unwrap_or_default();
+    let in_degrees = OneField::on_grid(flat_grid(5, 2)).file();
+    let others = describe(&in_degrees, 0).map(|description| description.numbers()).unwrap_or_default();
+    assert_eq!((numbers.len(), others.len()), (60, 53));
+    assert_eq!((&numbers[..8], &numbers[19..47]), (&others[..8], &others[19..47]));
+    assert_eq!(numbers[8..19], [1, 258, 5, 2, 10, 17, 18, 0, 0, 0, 0]);
+    assert_eq!(numbers[47..53], [16, 37, 118, 152, 173, 179]);
+    assert_eq!(numbers[53..], [30, 11, 12, 13, 14, 15, 16]);
+}
+
+#[test]
+fn description_of_signs_on_a_lambert_grid() {
+    let south = StatedLambert { first: (-1, 359_999_999), stated_latitude: -2, cutting_latitudes: (-3, -4), ..stated_lambert(2, 2) };
+    let numbers = |field: OneField| describe(&field.file(), 0).map(|description| description.numbers()).unwrap_or_default();
+    let told = numbers(OneField::on_lambert(south));
+    assert_eq!((&told[13..15], &told[53..56], &told[58..]), (&[-1, 359_999_999][..], &[30, -2, 140_000_000][..], &[-3, -4][..]));
+    let minus_zero = [39, 48, 66, 70].iter().fold(OneField::on_lambert(south), |field, octet| field.altered(3, *octet, &[0x80, 0, 0, 0]));
+    let told = numbers(minus_zero);
+    assert_eq!((told[13], told[54], &told[58..]), (0, 0, &[0, 0][..]));
+    let longest = numbers(OneField::on_lambert(StatedLambert { dx: 2_147_483_647, dy: 1, ..south }));
+    assert_eq!(longest[56..58], [2_147_483_647, 1]);
+}
+
+#[test]
 fn description_of_signs() {
     let south = OneField::on_grid(stated_grid(2, 2, (-36_000_000, 0), 5, 7)).altered(4, 24, &[0x82]);
     let field = south.altered(5, 12, &(-1.5f32).to_bits().to_be_bytes()).altered(5, 16, &signed_pair(-3)).altered(5, 18, &signed_pair(-4));
@@ -613,6 +762,39 @@ fn describe_fills_the_start_of_its_run_only() {
                 assert_eq!((answer, run), (Ok(53), [&told[..], &untouched(length - 53)].concat()));
             }
         }
+    }
+}
+
+#[test]
+fn describe_of_a_lambert_grid_needs_60_numbers() {
+    let file = [OneField::lambert().file(), OneField::simple().file()].concat();
+    let told = describe(&file, 0).map(|description| description.numbers()).unwrap_or_default();
+    for length in 0..=66 {
+        let mut run = untouched(length);
+        let answer = describe_into(&file, 0, &mut run);
+        if length < 60 {
+            assert_eq!((answer, run), (Err(refused(15, 0)), untouched(length)));
+        } else {
+            assert_eq!((answer, run), (Ok(60), [&told[..], &untouched(length - 60)].concat()));
+        }
+        let of_degrees = describe_into(&file, 1, &mut untouched(length));
+        assert_eq!(of_degrees, if length < 53 { Err(refused(15, 0)) } else { Ok(53) });
+    }
+}
+
+#[test]
+fn sheet_fills_the_start_of_its_run_only() {
+    let file = OneField::on_lambert(StatedLambert { dx: 5, dy: 9, ..stated_lambert(3, 2) }).file();
+    for length in 0..=5 {
+        let mut run = untouched(length);
+        let answer = sheet_into(&file, 0, 5, &mut run);
+        if length < 2 {
+            assert_eq!((answer, run), (Err(refused(15, 0)), untouched(length)));
+        } else {
+            assert_eq!((answer, run), (Ok(2), [&[10, 9], &untouched(length - 2)[..]].concat()));
+        }
+        let mut run = untouched(length);
+        assert_eq!((sheet_into(&file, 0, 6, &mut run), run), (Err(refused(17, 0)), untouched(length)));
     }
 }
 
@@ -836,6 +1018,93 @@ fn limits_of_corners_in_section_3() {
 }
 
 #[test]
+fn lengths_go_with_templates_in_section_3() {
+    let (degrees, lambert) = (OneField::simple(), OneField::lambert());
+    for length in [5, 38, 72, 80, 82] {
+        lambert.resized(3, length).refused_by(10, 3, &format!("template 30 of length {}", length));
+    }
+    degrees.resized(3, 81).refused_by(10, 3, "template 0 of length 81");
+    degrees.altered(3, 14, &[30]).refused_by(10, 3, "a grid in degrees that says template 30");
+    judge(&lambert, 3, 10, &[(14, &[0], false), (14, &[29], false), (14, &[31], false), (13, &[1, 30], false), (13, &[30, 0], false)]);
+}
+
+#[test]
+fn limits_of_single_octets_in_a_lambert_section_3() {
+    let field = OneField::lambert();
+    judge(&field, 3, 10, &[(6, &[1], false), (6, &[255], false), (11, &[1], false), (11, &[255], false), (12, &[1], false), (12, &[255], false)]);
+    judge(&field, 3, 10, &[(15, &[0], false), (15, &[2], false), (15, &[5], false), (15, &[7], false), (16, &[0xFF; 5], true), (21, &[0xFF; 10], true)]);
+    judge(&field, 3, 10, &[(15, &[1, 0, 0, 0, 0, 1], true), (15, &[1, 0, 0, 0, 0, 0], false), (15, &[1, 1, 0, 0, 0, 1], false)]);
+    judge(&field, 3, 10, &[(15, &[1, 0, 0xFF, 0xFF, 0xFF, 0xFE], true), (15, &[1, 0, 0xFF, 0xFF, 0xFF, 0xFF], false)]);
+    judge(&field, 3, 10, &[(47, &[0], false), (47, &[0x07], false), (47, &[0x09], false), (47, &[0x30], false), (47, &[0x38], false), (47, &[0x88], false)]);
+    judge(&field, 3, 10, &[(64, &[1], false), (64, &[0x80], false), (65, &[1], false), (65, &[0x40], false), (65, &[0x80], false), (65, &[255], false)]);
+    judge(&field, 3, 10, &[(74, &[0xFF; 8], true), (74, &[0x80, 0, 0, 1], true), (78, &[0x7F; 4], true)]);
+    judge(&field, 3, 10, &[(10, &[3], false), (10, &[5], false), (7, &[1], false)]);
+    let told = describe(&field.altered(3, 15, &[1, 0, 0, 97, 40, 0]).file(), 0);
+    assert_eq!(told.map(|description| (description.grid.earth_code, description.grid.radius)), Ok((1, 6_367_232)));
+    let told = describe(&field.altered(3, 16, &[0, 0, 0, 0, 9]).file(), 0);
+    assert_eq!(told.map(|description| (description.grid.earth_code, description.grid.radius)), Ok((6, 6_371_229)));
+}
+
+/// Asserts whether a Lambert grid passes, or is refused by 10.
+fn judge_lambert(grid: StatedLambert, passes: bool, what: &str) {
+    let field = OneField::on_lambert(grid);
+    if passes {
+        assert_eq!(describe(&field.file(), 0).err(), None, "{}", what);
+    } else {
+        field.refused_by(10, 3, what);
+    }
+}
+
+#[test]
+fn limits_of_counts_in_a_lambert_section_3() {
+    for (ni, nj, passes) in [
+        (65_535, 1, true),
+        (65_536, 1, false),
+        (1, 65_535, true),
+        (1, 65_536, false),
+        (0, 1, false),
+        (1, 0, false),
+        (4096, 4096, true),
+        (65_535, 256, true),
+        (65_535, 257, false),
+        (4097, 4096, false),
+        (65_536, 65_536, false),
+    ] {
+        judge_lambert(stated_lambert(ni, nj), passes, &format!("{} x {}", ni, nj));
+    }
+    judge_lambert(StatedLambert { points: 7, ..stated_lambert(2, 3) }, false, "seven points");
+}
+
+#[test]
+fn limits_of_angles_in_a_lambert_section_3() {
+    let grid = stated_lambert(2, 2);
+    for (latitude, passes) in [(90_000_000, true), (90_000_001, false), (-90_000_000, true), (-90_000_001, false), (2_147_483_647, false), (0, true)] {
+        let what = format!("latitude {}", latitude);
+        judge_lambert(StatedLambert { first: (latitude, 0), ..grid }, passes, &what);
+        judge_lambert(StatedLambert { stated_latitude: latitude, ..grid }, passes, &what);
+        judge_lambert(StatedLambert { cutting_latitudes: (latitude, 30_000_000), ..grid }, passes, &what);
+        judge_lambert(StatedLambert { cutting_latitudes: (30_000_000, latitude), ..grid }, passes, &what);
+    }
+    for (longitude, passes) in [(0, true), (359_999_999, true), (360_000_000, false), (0x8000_0000, false), (u32::MAX, false)] {
+        let what = format!("longitude {}", longitude);
+        judge_lambert(StatedLambert { first: (0, longitude), ..grid }, passes, &what);
+        judge_lambert(StatedLambert { upright_meridian: longitude, ..grid }, passes, &what);
+    }
+    judge_lambert(StatedLambert { cutting_latitudes: (30_000_000, 60_000_000), ..grid }, true, "the cutting latitudes in the other order");
+    judge_lambert(StatedLambert { cutting_latitudes: (45_000_000, 45_000_000), ..grid }, true, "one cutting latitude");
+    judge_lambert(StatedLambert { cutting_latitudes: (30_000_000, -30_000_000), ..grid }, true, "cutting latitudes on either side of the equator");
+}
+
+#[test]
+fn limits_of_lengths_in_a_lambert_section_3() {
+    for (length, passes) in [(0, false), (1, true), (2_147_483_647, true), (2_147_483_648, false), (u32::MAX, false)] {
+        judge_lambert(StatedLambert { dx: length, ..stated_lambert(2, 2) }, passes, &format!("Dx {}", length));
+        judge_lambert(StatedLambert { dy: length, ..stated_lambert(2, 2) }, passes, &format!("Dy {}", length));
+        judge_lambert(StatedLambert { dx: length, dy: length, ..stated_lambert(1, 1) }, passes, &format!("Dx and Dy {} of one point", length));
+    }
+}
+
+#[test]
 fn limits_of_section_4() {
     let field = OneField::simple();
     for length in [5, 33, 35, 56, 58] {
@@ -973,6 +1242,9 @@ fn earlier_bitmaps() {
     assert_eq!(present(&latest, 4), Ok(vec![1, 1, 0, 0, 0, 0, 0, 0]));
     let other_grid = message_of_grids(&[grid_with_fields(8, &[own(0xC0)]), grid_with_fields(8, &[earlier(2)])]);
     assert_eq!(present(&other_grid, 1), Err(13));
+    let lambert = |fields: &[Vec<Vec<u8>>]| [vec![section_3_lambert(stated_lambert(8, 1))], fields.concat()].concat();
+    let other_kind = message_of_grids(&[grid_with_fields(8, &[own(0xC0)]), lambert(&[earlier(2)]), lambert(&[own(0x03), earlier(2)])]);
+    assert_eq!([1, 2, 3].map(|k| present(&other_kind, k)), [Err(13), Ok(vec![0, 0, 0, 0, 0, 0, 1, 1]), Ok(vec![0, 0, 0, 0, 0, 0, 1, 1])]);
     let one = message_of_grids(&[grid_with_fields(8, &[own(0xC0)])]);
     let other_message = [one.clone(), message_of_grids(&[grid_with_fields(8, &[earlier(2)])])].concat();
     let start = one.len() as u32 + 16 + 21 + 72 + 34 + 21;
@@ -1060,6 +1332,25 @@ fn decode_fills_its_stretch_only() {
     assert_eq!(decode(&sample(), 1, 0, &mut values[..4], &mut marks[..4]), Ok(4));
     assert_eq!(values, [7.0, 0.0, 9.0, 0.0, 2748.0, 0.0, 9.0]);
     assert_eq!(marks, [1, 0, 1, 0, 1, 0, 9, 9]);
+}
+
+#[test]
+fn decode_is_the_same_on_a_lambert_grid() {
+    let bitmap = |field: &OneField| field.with(5, section_5_simple(2, 12)).with(6, section(6, &[0, 0xA0])).with(7, section(7, &[0x12, 0x3A, 0xBC]));
+    let decoded = |field: &OneField| {
+        let (mut values, mut marks) = ([9.0; 6], [9; 6]);
+        let answer = decode(&field.file(), 0, 1, &mut values, &mut marks).map_err(|refusal| refusal.number);
+        (answer, values.map(f64::to_bits), marks)
+    };
+    let (degrees, lambert) = (OneField::simple(), OneField::lambert());
+    assert_eq!(decoded(&lambert), (Ok(4), [9.0, 291.0, 2748.0, 0.0, 1.0, 9.0].map(f64::to_bits), [9, 1, 1, 1, 1, 9]));
+    assert_eq!(decoded(&bitmap(&lambert)), (Ok(4), [9.0, 291.0, 0.0, 2748.0, 0.0, 9.0].map(f64::to_bits), [9, 1, 0, 1, 0, 9]));
+    assert_eq!((decoded(&lambert), decoded(&bitmap(&lambert))), (decoded(&degrees), decoded(&bitmap(&degrees))));
+    let grouped = OneField::grouped(TWO_GROUPS, &TWO_GROUPS_DATA).with(3, section_3_lambert(stated_lambert(5, 1)));
+    assert_eq!(integers(&grouped.file(), 0), Ok(vec![100, 102, 104, 109, 122]));
+    assert_eq!(decode(&lambert.file(), 0, 0, &mut [0.0; 3], &mut [0; 4]), Err(refused(15, 0)));
+    let out_of_range = plain_differences(4, 0, 0, -1).with(3, section_3_lambert(stated_lambert(4, 1)));
+    assert_eq!(decode(&out_of_range.file(), 0, 0, &mut [0.0; 4], &mut [0; 4]), Err(refused(16, out_of_range.start(7))));
 }
 
 #[test]
@@ -1201,14 +1492,16 @@ fn near_enough_stops_at_its_bound() {
 
 #[test]
 fn lowest_refusal_is_given() {
-    let all_wrong = OneField::simple().altered(1, 12, &[0]).altered(3, 15, &[0]).altered(4, 23, &[255]).altered(5, 20, &[32]);
-    let mut field = all_wrong.with(6, section(6, &[9])).with(7, section(7, &[]));
-    let mends: [(u32, usize, usize, u8); 5] = [(9, 1, 12, 1), (10, 3, 15, 6), (11, 4, 23, 103), (12, 5, 20, 12), (13, 6, 6, 255)];
-    for (number, section, octet, right) in mends {
-        field.refused_by(number, section, "the lowest of those left");
-        field = field.altered(section, octet, &[right]);
+    for good in [OneField::simple(), OneField::lambert()] {
+        let all_wrong = good.altered(1, 12, &[0]).altered(3, 15, &[0]).altered(4, 23, &[255]).altered(5, 20, &[32]);
+        let mut field = all_wrong.with(6, section(6, &[9])).with(7, section(7, &[]));
+        let mends: [(u32, usize, usize, u8); 5] = [(9, 1, 12, 1), (10, 3, 15, 6), (11, 4, 23, 103), (12, 5, 20, 12), (13, 6, 6, 255)];
+        for (number, section, octet, right) in mends {
+            field.refused_by(number, section, "the lowest of those left");
+            field = field.altered(section, octet, &[right]);
+        }
+        field.refused_by(14, 7, "the last one left");
     }
-    field.refused_by(14, 7, "the last one left");
 }
 
 /// Answers every question about arbitrary octets; what matters is that each comes back.
@@ -1219,6 +1512,7 @@ fn ask_everything(file: &[u8]) -> u64 {
         check(file).map_or_else(Refusal::code, Counts::code),
         describe(file, 0).map_or_else(Refusal::code, |told| told.numbers().len() as u64),
         place(file, 0, 3).map_or_else(Refusal::code, |(_, longitude)| u64::from(longitude)),
+        sheet(file, 0, 3).map_or_else(Refusal::code, |(right, _)| right as u64),
         decode(file, 0, 1, &mut values, &mut marks).map_or_else(Refusal::code, u64::from),
         listing(file).len() as u64,
     ];
@@ -1228,7 +1522,8 @@ fn ask_everything(file: &[u8]) -> u64 {
 #[test]
 fn damaged_files_are_answered() {
     let mut sequence = Sequence(88);
-    let files = [sample(), OneField::grouped(TWO_GROUPS, &TWO_GROUPS_DATA).file(), OneField::grouped(ONE_GROUP, &ONE_GROUP_DATA).file()];
+    let grouped = [OneField::grouped(TWO_GROUPS, &TWO_GROUPS_DATA).file(), OneField::grouped(ONE_GROUP, &ONE_GROUP_DATA).file()];
+    let files = [&[sample(), OneField::lambert().file()], &grouped[..]].concat();
     let mut differing = 0;
     for round in 0..60_000 {
         let mut file = files[round % files.len()].clone();
@@ -1249,5 +1544,6 @@ fn every_shortened_file_is_refused() {
         assert_eq!(check(&file[..length]), Err(refused(3, 0)), "{} octets", length);
         assert_eq!(describe_into(&file[..length], 0, &mut [0; 52]), Err(refused(3, 0)), "{} octets", length);
         assert_eq!(place_into(&file[..length], 0, 9, &mut [0]), Err(refused(3, 0)), "{} octets", length);
+        assert_eq!(sheet_into(&file[..length], 0, 9, &mut [0]), Err(refused(3, 0)), "{} octets", length);
     }
 }

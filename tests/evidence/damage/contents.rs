@@ -5,13 +5,13 @@ use crate::make::number;
 use crate::random::Random;
 use crate::walk::number_at;
 
-/// The numbers that the rules name: the section, how many octets, and the first octets counted from 1.
+/// The numbers that the rules name: the section, how many octets, and the first octets counted from 1. Section 3 has some in one of its templates only.
 const NUMBERS: [(u8, usize, &[usize]); 12] = [
     (1, 1, &[12, 15, 16, 17, 18, 19, 20]),
     (1, 2, &[6, 13]),
-    (3, 1, &[6, 11, 12, 15, 16, 55, 72]),
+    (3, 1, &[6, 11, 12, 15, 16, 47, 55, 64, 65, 72]),
     (3, 2, &[13]),
-    (3, 4, &[7, 17, 31, 35, 39, 43, 47, 51, 56, 60, 64, 68]),
+    (3, 4, &[7, 17, 31, 35, 39, 43, 47, 48, 51, 52, 56, 60, 64, 66, 68, 70]),
     (4, 1, &[18, 23, 24, 29, 30, 37, 38, 39, 40, 41, 42, 47, 49]),
     (4, 2, &[6, 8, 35]),
     (4, 4, &[19, 25, 31, 50]),
@@ -26,7 +26,7 @@ const PLAN: [(usize, usize); 9] = [(20, 1), (32, 4), (36, 1), (37, 1), (38, 4), 
 
 /// The limits that the rules name, and what lies on their other side, for numbers of 1, 2 and 4 octets.
 const LIMITS_OF_1: [u64; 16] = [0, 1, 2, 4, 5, 12, 13, 23, 24, 28, 29, 31, 32, 59, 60, 254];
-const LIMITS_OF_2: [u64; 14] = [0, 22, 23, 127, 128, 0x8016, 0x8017, 0x807f, 0x8080, 0x8000, 1899, 1900, 2399, 2400];
+const LIMITS_OF_2: [u64; 15] = [0, 22, 23, 30, 127, 128, 0x8016, 0x8017, 0x807f, 0x8080, 0x8000, 1899, 1900, 2399, 2400];
 const LIMITS_OF_4: [[u64; 4]; 4] = [
     [0, 1, 65_535, 65_536],
     [16_777_216, 16_777_217, 359_999_999, 360_000_000],
@@ -105,7 +105,7 @@ pub fn number_of_a_section(random: &mut Random, base: &[u8], _: &[u8]) -> Option
 pub fn section_resized(random: &mut Random, base: &[u8], _: &[u8]) -> Option<Vec<u8>> {
     let number_of_section = *random.choose(&[1, 3, 4, 5, 6, 6, 7, 7]);
     with_section_changed(random, base, &[number_of_section], |random, section| {
-        let change = *random.choose(&[1, 1, 1, 2, 4, 24, 28]);
+        let change = *random.choose(&[1, 1, 1, 2, 4, 9, 24, 28]);
         let shorter = section.len().saturating_sub(change).max(5);
         let any = random.octet();
         let length = *random.choose(&[section.len() + change, shorter, shorter, 5, 6]);

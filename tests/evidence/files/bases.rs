@@ -1,8 +1,8 @@
 //! Small valid files, octet by octet the same each time, for the tests that change every one of their octets.
 
 use crate::make::{
-    section6, section7, Groups, Interval, Level, Message, PackedRun, Point, Scaling, Section1, Section3, Section4, Section5, Section7Groups, Signed, Time,
-    LARGEST,
+    section6, section7, Groups, Interval, Level, Message, PackedRun, Point, Scaling, Section1, Section3, Section3Lambert, Section4, Section5, Section7Groups,
+    Signed, Time, LARGEST,
 };
 
 const POLE: i64 = 90_000_000;
@@ -170,6 +170,25 @@ fn few_in_groups() -> Vec<u8> {
     file(&[&[Section1::default().octets(), Section3::default().octets()], &first, &second])
 }
 
+/// Five of six points on the Agency's cone: two rows of three points each, further apart to the right than downward.
+fn on_a_sheet() -> Vec<u8> {
+    let grid = Section3Lambert { ni: 3, nj: 2, ..Section3Lambert::default() };
+    let level = Some(Level { factor: 0.into(), scaled: 1 });
+    let product = Section4 { category: 2, parameter: 2, unit: 0, forecast: 180, surface: 118, level, ..Section4::default() };
+    let field = [product.octets(), simple(5, Scaling::of(-200.0, -6, 0), 14), section6(0, &[0xd8]), section7(&[16_383, 0, 8_192, 1, 12_800], 14, 0x2a)];
+    file(&[&[Section1::default().octets(), grid.octets()], &field])
+}
+
+/// Both kinds of grid in one message. The Lambert grid has its numbers at their limits, and its last column lies further right than 32 bits can tell.
+fn both_kinds_of_grid() -> Vec<u8> {
+    let cone = Section3Lambert { stated_latitude: Signed::MINUS_ZERO, upright_meridian: 359_999_999, dx: LARGEST as u32, dy: 1, ..Section3Lambert::default() };
+    let first = Point::at(-POLE, 359_999_999);
+    let limits = Section3Lambert { earth_code: 6, ni: 4, nj: 2, first, cutting_latitudes: [POLE.into(), (-POLE).into()], pole: [0x5a; 8], ..cone };
+    let on_sheet = [Section4::default().octets(), simple(3, Scaling::of(1.5, 1, 0), 5), section6(0, &[0x91]), section7(&[0, 31, 16], 5, 1)];
+    let in_degrees = [Section4::default().octets(), simple(4, Scaling::of(0.0, 0, 1), 3), section6(255, &[]), section7(&[1, 7, 0, 5], 3, 0)];
+    file(&[&[Section1::default().octets(), Section3::default().octets()], &in_degrees, &[limits.octets()], &on_sheet])
+}
+
 /// Each with a name.
 pub fn small_bases() -> Vec<(&'static str, Vec<u8>)> {
     vec![
@@ -182,5 +201,7 @@ pub fn small_bases() -> Vec<(&'static str, Vec<u8>)> {
         ("no values", no_values()),
         ("limits", limits()),
         ("few in groups", few_in_groups()),
+        ("on a sheet", on_a_sheet()),
+        ("both kinds of grid", both_kinds_of_grid()),
     ]
 }

@@ -3,8 +3,8 @@
 
 use super::calendar::{days_of_month, last_second, time_at};
 use crate::make::{
-    bitmap, section, section6, section7, Groups, Interval, Message, PackedRun, Point, Scaling, Section1, Section3, Section4, Section5, Section7Groups, Signed,
-    Time,
+    bitmap, section, section6, section7, Groups, Interval, Message, PackedRun, Point, Scaling, Section1, Section3, Section3Lambert, Section4, Section5,
+    Section7Groups, Signed, Time,
 };
 use crate::random::Random;
 
@@ -23,8 +23,21 @@ fn field(section5: Vec<u8>, section6: Vec<u8>, section7: Vec<u8>) -> Vec<Vec<u8>
 }
 
 /// A message of one grid.
-fn file(section1: Section1, section3: Section3, fields: Vec<Vec<u8>>) -> Vec<u8> {
-    Message::of([vec![section1.octets(), section3.octets()], fields].concat()).octets()
+fn file(section1: Section1, section3: Vec<u8>, fields: Vec<Vec<u8>>) -> Vec<u8> {
+    Message::of([vec![section1.octets(), section3], fields].concat()).octets()
+}
+
+/// A message of one grid and a field of no bits on it.
+fn file_of_grid(section3: Vec<u8>, points: u32) -> Vec<u8> {
+    file(Section1::default(), section3, field(simple(points, Scaling::of(1.0, 0, 0), 0), section6(255, &[]), section7(&[], 0, 0)))
+}
+
+/// Octets 16 to 30 of earth code 1, with a radius at a limit, or with an octet before it that is not 0.
+fn earth(random: &mut Random) -> [u8; 15] {
+    let radius = *random.choose(&[0, 1, 0xffff_fffe, 0xffff_ffff]);
+    let mut earth = Section3::earth_of_radius(radius, &[255; 10]);
+    earth[0] = *random.choose(&[0, 0, 1]);
+    earth
 }
 
 /// A grid at or past a limit of latitudes, longitudes, the tolerance or the radius, and a field of no bits on it. One is so wide that its steps
@@ -38,9 +51,7 @@ pub fn grid(random: &mut Random) -> Vec<u8> {
     let east = Point { longitude: whole.last.longitude + off, ..whole.last };
     let column = Section3 { ni: 1, nj: steps + 1, dj: 7, ..row(1) };
     let south = |span: u32| Point::at(36_000_000 - i64::from(span), 135_000_000);
-    let radius = *random.choose(&[0, 1, 0xffff_fffe, 0xffff_ffff]);
-    let mut earth = Section3::earth_of_radius(radius, &[255; 10]);
-    earth[0] = *random.choose(&[0, 0, 1]);
+    let earth = earth(random);
     let turns = *random.choose(&[7, 11, 13]);
     let grid = match random.below(6) {
         0 => Section3 { first: point, last: point, ..row(1) },
@@ -50,8 +61,45 @@ pub fn grid(random: &mut Random) -> Vec<u8> {
         4 => Section3 { first: Point::at(0, 359_999_999), last: Point::at(0, 359_999_998), di: 359_999_999 / turns + 1, ..row(turns + 1) },
         _ => Section3 { earth_code: 1, earth, ..whole },
     };
-    let data = field(simple(grid.ni * grid.nj, Scaling::of(1.0, 0, 0), 0), section6(255, &[]), section7(&[], 0, 0));
-    file(Section1::default(), grid, data)
+    file_of_grid(grid.octets(), grid.ni * grid.nj)
+}
+
+/// A Lambert grid at or past a limit of its angles, its lengths or the radius, or with an octet that is not as it has to be.
+fn lambert_at_a_limit(random: &mut Random) -> Section3Lambert {
+    let own = || Section3Lambert { ni: 3, nj: 2, ..Section3Lambert::default() };
+    let latitude: Signed = (*random.choose(&[90_000_000, 90_000_001, -90_000_000, -90_000_001])).into();
+    let longitude = *random.choose(&[359_999_999, 360_000_000]);
+    let length = *random.choose(&[0, 1, 0x7fff_ffff, 0x8000_0000, 0xffff_ffff]);
+    let ordinary: Signed = 30_000_000.into();
+    match random.below(12) {
+        0 => Section3Lambert { first: Point { latitude, ..own().first }, ..own() },
+        1 => Section3Lambert { first: Point { longitude, ..own().first }, ..own() },
+        2 => Section3Lambert { stated_latitude: latitude, ..own() },
+        3 => Section3Lambert { upright_meridian: longitude, ..own() },
+        4 => Section3Lambert { cutting_latitudes: [latitude, ordinary], ..own() },
+        5 => Section3Lambert { cutting_latitudes: [ordinary, latitude], ..own() },
+        6 => Section3Lambert { dx: length, ..own() },
+        7 => Section3Lambert { dy: length, ..own() },
+        8 => Section3Lambert { flags: *random.choose(&[0, 0x09, 0x38]), ..own() },
+        9 => Section3Lambert { centre: *random.choose(&[1, 0x80]), ..own() },
+        10 => Section3Lambert { scanning: *random.choose(&[1, 0x40, 0x80]), ..own() },
+        _ => Section3Lambert { earth: earth(random), ..own() },
+    }
+}
+
+/// A grid with the template of one kind and the length of the other, or with a length that no kind has.
+fn grid_of_another_length(random: &mut Random) -> Vec<u8> {
+    let lengths = [72, 80, 82, 90];
+    let mut grid = if random.chance(1, 2) { Section3Lambert { ni: 3, nj: 2, ..Section3Lambert::default() }.octets() } else { row(6).octets() };
+    let length = if grid.len() == 81 { *random.choose(&lengths) } else { 81 };
+    grid.resize(length, 0);
+    grid[..4].copy_from_slice(&(length as u32).to_be_bytes());
+    grid
+}
+
+pub fn lambert(random: &mut Random) -> Vec<u8> {
+    let grid = if random.chance(1, 8) { grid_of_another_length(random) } else { lambert_at_a_limit(random).octets() };
+    file_of_grid(grid, 6)
 }
 
 /// A reference time that is not in the calendar, or just is.
@@ -77,7 +125,7 @@ fn last_moments(random: &mut Random) -> (Time, Section4) {
 pub fn time(random: &mut Random) -> Vec<u8> {
     let (reference, product) = if random.chance(1, 2) { (reference(random), Section4::default()) } else { last_moments(random) };
     let data = vec![product.octets(), simple(3, Scaling::of(0.0, 0, 0), 4), section6(255, &[]), section7(&[1, 2, 3], 4, 0)];
-    file(Section1 { reference, ..Section1::default() }, row(3), data)
+    file(Section1 { reference, ..Section1::default() }, row(3).octets(), data)
 }
 
 /// R, E, D or the bits of 5.0 at their limits and past them.
@@ -92,7 +140,7 @@ pub fn packing(random: &mut Random) -> Vec<u8> {
         _ => (ordinary, bits),
     };
     let data = field(simple(3, scaling, bits), section6(255, &[]), section7(&[4095, 0, 1], bits, 0));
-    file(Section1::default(), row(3), data)
+    file(Section1::default(), row(3).octets(), data)
 }
 
 /// What section 5 says of the groups, and what section 7 stores for the first of them; for the others it stores zeros.
@@ -143,7 +191,7 @@ pub fn groups(random: &mut Random) -> Vec<u8> {
         spare: [0; 4],
     };
     let section5 = Section5 { count: 4, scaling: Scaling::of(0.0, 0, 0), bits, groups: Some(groups) };
-    file(Section1::default(), row(4), field(section5.octets(), section6(255, &[]), data.octets()))
+    file(Section1::default(), row(4).octets(), field(section5.octets(), section6(255, &[]), data.octets()))
 }
 
 /// Fields that a bitmap is right for, by indicator 0 or 254.
