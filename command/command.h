@@ -123,6 +123,9 @@ const char *discipline_name(int64_t discipline);
 const char *category_name(int64_t discipline, int64_t category);
 const char *process_name(int64_t process);
 
+/* Is the field on a Lambert grid? If not, it is on a grid in degrees. */
+int is_on_sheet(const struct skeptolyr_field *field);
+
 enum { WORDS_ROOM = 160 };
 
 /* Each writes its words into `text`, which has WORDS_ROOM octets, and returns it. */
@@ -131,6 +134,8 @@ char *level_in_words(const struct skeptolyr_field *field, char *text);
 char *time_in_words(const struct skeptolyr_time *time, char *text);
 char *times_in_words(const struct skeptolyr_field *field, char *text);
 char *degrees_in_words(int64_t millionths, char *text);
+char *metres_in_words(int64_t thousandths, char *text);
+char *grid_in_words(const struct skeptolyr_field *field, char *text);
 char *packing_in_words(const struct skeptolyr_field *field, char *text);
 
 #endif

@@ -224,6 +224,8 @@ const struct subcommand draw_command = {
     "Makes PICTURE, a PNG, of field K of FILE: each point in a colour, missing points in grey, north on top. It has what the field is, its times, latitudes\n"
     "and longitudes, and the scale of the colours with its unit. Fields are counted from 0, and `skeptolyr ls FILE` tells what each is. A point is a square\n"
     "of whole pixels. PICTURE may be -, which is standard output. A picture that is there already is replaced when the new one is whole.\n\n"
+    "The picture of a Lambert grid is the sheet of the map: it has the sheet's shape, as Dx and Dy make it where neither is more than 8 times the other,\n"
+    "and along its sides are the kilometres to the right of the first point and below it, in place of longitudes and latitudes.\n\n"
     "  --range LOW HIGH   the scale goes from LOW to HIGH, so that several pictures can be compared or become an animation; without it, from the lowest\n"
     "                     value of the field to the highest. Values outside get the colour of the nearer end, and < or > stands there.",
     draw};

@@ -158,7 +158,7 @@ static void write_number(const struct row *row, int64_t number, int is_limit, ch
         snprintf(text, LINE_ROOM, "0x%02x", (unsigned)number);
     else if (row->form == SINGLE)
         write_single((uint64_t)number, text);
-    else if (count == 4 && number == ALL_ONES)
+    else if (count == 4 && (number == ALL_ONES || (row->form == SIGNED && number == -LARGEST)))
         snprintf(text, LINE_ROOM, "all ones");
     else if (is_limit && (number > 9999 || number < -9999))
         write_with_commas(number, text);
@@ -270,6 +270,29 @@ void judge_calendar(const struct row *row, const struct sections *sections, stru
 
 /* ---- Section 3 */
 
+/* Two numbers that a rule compares. */
+static void write_two(struct line *line, int64_t one, int64_t other)
+{
+    snprintf(line->value, LINE_ROOM, "%" PRId64 " and %" PRId64, one, other);
+}
+
+/* The length of section 3, 4 or 5 must be that of its template: of template 0, or of the other one that is read. Where length or template is wrong by itself,
+ * this is not asked. */
+void judge_length_and_template(const struct row *row, const struct sections *sections, struct line *line)
+{
+    static const struct {
+        uint64_t of_0, of_other, other;
+    } lengths[] = {[3] = {72, 81, 30}, [4] = {34, 58, 8}, [5] = {21, 49, 3}};
+    uint64_t length = number_at(sections, row->section, 1, 4), template_number = number_at(sections, row->section, row->first, row->last);
+    uint64_t of_0 = lengths[row->section].of_0, of_other = lengths[row->section].of_other, other = lengths[row->section].other;
+    int is_known = (length == of_0 || length == of_other) && (template_number == 0 || template_number == other);
+    write_two(line, (int64_t)length, (int64_t)template_number);
+    snprintf(line->rule, LINE_ROOM, "%s", is_known ? row->remark : "not judged: one of them is wrong");
+    if (is_known)
+        line->verdict = verdict_of((length == of_0) == (template_number == 0));
+}
+
+/* What a grid in degrees tells of its points. A Lambert grid has the same point count, Ni and Nj. */
 struct grid {
     int64_t points, ni, nj, first_latitude, first_longitude, last_latitude, last_longitude, di, dj;
     int are_numbers_good;
@@ -295,12 +318,6 @@ static struct grid grid_of(const struct sections *sections)
     grid.are_numbers_good = grid.ni >= 1 && grid.ni <= 65535 && grid.nj >= 1 && grid.nj <= 65535
         && grid.first_longitude < TURN && grid.last_longitude < TURN && is_latitude(grid.first_latitude) && is_latitude(grid.last_latitude);
     return grid;
-}
-
-/* Two numbers that a rule compares. */
-static void write_two(struct line *line, int64_t one, int64_t other)
-{
-    snprintf(line->value, LINE_ROOM, "%" PRId64 " and %" PRId64, one, other);
 }
 
 void judge_point_count(const struct row *row, const struct sections *sections, struct line *line)
@@ -353,19 +370,6 @@ void judge_span_south(const struct row *row, const struct sections *sections, st
 }
 
 /* ---- Sections 4 and 5 */
-
-/* The length of section 4 or 5 must be that of its template. Where one of the two is wrong by itself, this is not asked. */
-void judge_length_and_template(const struct row *row, const struct sections *sections, struct line *line)
-{
-    int section = row->section;
-    uint64_t length = number_at(sections, section, 1, 4), template_number = number_at(sections, section, row->first, row->last);
-    uint64_t of_0 = section == 4 ? 34 : 21, of_other = section == 4 ? 58 : 49, other = section == 4 ? 8 : 3;
-    int is_known = (length == of_0 || length == of_other) && (template_number == 0 || template_number == other);
-    write_two(line, (int64_t)length, (int64_t)template_number);
-    snprintf(line->rule, LINE_ROOM, "%s", is_known ? row->remark : "not judged: one of them is wrong");
-    if (is_known)
-        line->verdict = verdict_of((length == of_0) == (template_number == 0));
-}
 
 void judge_parameter(const struct row *row, const struct sections *sections, struct line *line)
 {

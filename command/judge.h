@@ -13,9 +13,11 @@ enum form { NUMBER, SIGNED, HEXADECIMAL, LETTERS, SINGLE };
 /* Which sections a row is about. */
 enum when {
     ALWAYS,
-    GRID,         /* a section 3 of template 3.0 */
+    GRID,         /* a section 3 of template 3.0 or 3.30 */
     OWN_RADIUS,   /* with earth code 1 */
     OTHER_RADIUS, /* with another earth code */
+    DEGREES,      /* of template 3.0 */
+    LAMBERT,      /* of template 3.30 */
     PRODUCT,      /* a section 4 of template 4.0 or 4.8 */
     INTERVAL,     /* of template 4.8 */
     PACKING,      /* a section 5 of template 5.0 or 5.3 */

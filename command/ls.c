@@ -95,7 +95,7 @@ static void fill_line(struct line *line, uint32_t k, const struct listed *listed
     level_in_words(field, line->cells[LEVEL]);
     time_in_words(&field->reference, line->cells[REFERENCE]);
     times_in_words(field, line->cells[VALID]);
-    snprintf(line->cells[GRID], WORDS_ROOM, "%" PRId64 " x %" PRId64, field->ni, field->nj);
+    grid_in_words(field, line->cells[GRID]);
     snprintf(line->cells[PRESENT], WORDS_ROOM, "%" PRId64 " of %" PRId64, field->present, field->points);
     packing_in_words(field, line->cells[PACKING]);
 }
@@ -204,6 +204,32 @@ static void print_refusal(uint64_t answer)
     printf("}");
 }
 
+static void print_lambert(const struct skeptolyr_lambert *lambert)
+{
+    printf(", \"lambert\": {\"stated_latitude\": %" PRId64, lambert->stated_latitude);
+    print_member("upright_meridian", lambert->upright_meridian);
+    print_member("dx", lambert->dx);
+    print_member("dy", lambert->dy);
+    print_member("cutting_latitude_1", lambert->cutting_latitude_1);
+    print_member("cutting_latitude_2", lambert->cutting_latitude_2);
+    printf("}");
+}
+
+/* What one kind of grid has alone is null where the grid is of the other kind: a script that knows that kind only must not take 0 for a place or a step. */
+static void print_members_of_kind(const struct skeptolyr_field *field)
+{
+    print_member("grid_template", field->grid_template);
+    if (is_on_sheet(field)) {
+        printf(", \"last\": null, \"di\": null, \"dj\": null");
+        print_lambert(&field->lambert);
+    } else {
+        print_position("last", &field->last);
+        print_member("di", field->di);
+        print_member("dj", field->dj);
+        printf(", \"lambert\": null");
+    }
+}
+
 /* Sections 0 to 3. */
 static void print_grid_members(const struct skeptolyr_field *field)
 {
@@ -216,9 +242,7 @@ static void print_grid_members(const struct skeptolyr_field *field)
     print_member("nj", field->nj);
     print_member("points", field->points);
     print_position("first", &field->first);
-    print_position("last", &field->last);
-    print_member("di", field->di);
-    print_member("dj", field->dj);
+    print_members_of_kind(field);
 }
 
 /* Section 4. */
@@ -262,6 +286,7 @@ static void print_words(const struct skeptolyr_field *field)
     print_member_text("level", level_in_words(field, text));
     print_member_text("reference", time_in_words(&field->reference, text));
     print_member_text("valid", times_in_words(field, text));
+    print_member_text("grid", grid_in_words(field, text));
     print_member_text("packing", packing_in_words(field, text));
     printf("}");
 }
@@ -344,10 +369,11 @@ static int ls(int count, char **words)
 const struct subcommand ls_command = {
     "ls", "[--json] FILE...", "a line for each field: what it is, its level, times, grid and packing",
     "Prints a table for each FILE, with a line for each field: its number; what it is, in words with its unit, and as the three numbers of discipline,\n"
-    "category and parameter; its level; its reference time, and the time or the interval for which it is valid; its grid, as columns x rows; how many of\n"
-    "its points are present; and how it is packed. A parameter that has no name here is told by its three numbers. A field that is refused has a line\n"
-    "with the refusal's number and place.\n\n"
+    "category and parameter; its level; its reference time, and the time or the interval for which it is valid; its grid, as columns x rows, and that it\n"
+    "is a Lambert grid where it is one; how many of its points are present; and how it is packed. A parameter that has no name here is told by its three\n"
+    "numbers. A field that is refused has a line with the refusal's number and place.\n\n"
     "  --json  print JSON for scripts: an array with an object for each FILE. A field has all numbers of its description, by the names that the header\n"
-    "          skeptolyr.h gives them, and `words`. A refused file or field has `refused`, with the refusal's number, place and text.\n\n"
+    "          skeptolyr.h gives them, and `words`. `grid_template` is 0 for a grid in degrees and 30 for a Lambert grid, and what the other kind alone\n"
+    "          has is null. A refused file or field has `refused`, with the refusal's number, place and text.\n\n"
     "It exits with 1 if a file or a field is refused. Whether the values of a field can be unpacked is told by `skeptolyr values`.",
     ls};

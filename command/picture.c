@@ -69,9 +69,10 @@ struct labels label(double low, double high)
 
 /* ---- Coordinates */
 
-enum { MOST_TICKS = 16, TICK_ROOM = 24, DEGREE = 1000000, TURN = 360 * DEGREE, POLE = 90 * DEGREE };
+/* Degrees are counted in millionths, and so are kilometres, which have a million thousandths of a metre. */
+enum { MOST_TICKS = 16, TICK_ROOM = 32, WHOLE = 1000000, DEGREE = WHOLE, TURN = 360 * DEGREE, POLE = 90 * DEGREE };
 
-/* A mark at a side of the field, so many pixels from its left or from its top, and the degrees that are written there. */
+/* A mark at a side of the field, so many pixels from its left or from its top, and the degrees or kilometres that are written there. */
 struct tick {
     size_t at;
     char text[TICK_ROOM];
@@ -82,51 +83,95 @@ struct ruler {
     struct tick ticks[MOST_TICKS];
 };
 
-/* A side of the field: the coordinate of its first point, the span from there to its last, both in millionths of a degree, the points, and the pixels of
- * each. The step from point to point need not be a whole number. */
+/* What is marked at a side: degrees from south to north or from west to east, or kilometres from the first point on. */
+enum marks { LATITUDES, LONGITUDES, LENGTHS };
+
+/* A side of the field: the coordinate of its first point, and the span from there to its last, both in millionths of a degree or of a kilometre; the points,
+ * and the pixels of all of them. The step from point to point need not be a whole number: it is `step` / `steps`. */
 struct side {
-    int is_latitude;
-    int64_t first, span, points;
-    size_t pixels;
+    enum marks marks;
+    int is_upright;
+    int64_t first, span, step, steps, points;
+    int64_t pixels;
 };
 
-static struct side south_side(const struct skeptolyr_field *field, size_t pixels)
+/* One point alone has no step: a side of one point is never ruled. */
+static struct side side_in_degrees(enum marks marks, int64_t first, int64_t span, int64_t points, size_t pixels)
 {
-    struct side side = {1, field->first.latitude, field->first.latitude - field->last.latitude, field->nj, pixels};
+    struct side side = {marks, marks == LATITUDES, first, span, span, points - 1, points, (int64_t)pixels};
     return side;
 }
 
-/* A field over the zero meridian has the smaller longitude last. */
-static struct side east_side(const struct skeptolyr_field *field, size_t pixels)
+static struct side side_of_sheet(int is_upright, int64_t step, int64_t points, size_t pixels)
+{
+    struct side side = {LENGTHS, is_upright, 0, (points - 1) * step, step, 1, points, (int64_t)pixels};
+    return side;
+}
+
+/* The side from the top down. */
+static struct side upright_side(const struct skeptolyr_field *field, size_t pixels)
+{
+    if (is_on_sheet(field))
+        return side_of_sheet(1, field->lambert.dy, field->nj, pixels);
+    return side_in_degrees(LATITUDES, field->first.latitude, field->first.latitude - field->last.latitude, field->nj, pixels);
+}
+
+/* The side from left to right. A field over the zero meridian has the smaller longitude last. */
+static struct side level_side(const struct skeptolyr_field *field, size_t pixels)
 {
     int64_t span = field->last.longitude - field->first.longitude;
-    struct side side = {0, field->first.longitude, span < 0 ? span + TURN : span, field->ni, pixels};
-    return side;
+    if (is_on_sheet(field))
+        return side_of_sheet(0, field->lambert.dx, field->ni, pixels);
+    return side_in_degrees(LONGITUDES, field->first.longitude, span < 0 ? span + TURN : span, field->ni, pixels);
 }
 
-/* Degrees with no more decimals than they need. East of 180 degrees they are counted to the west. */
+/* Writes a number of millionths with no more decimals than it needs: how long is it? What follows in the text is not part of it. */
+static int write_millionths(int64_t millionths, char *text)
+{
+    int length = snprintf(text, TICK_ROOM, "%" PRId64 ".%06" PRId64, millionths / WHOLE, millionths % WHOLE);
+    while (text[length - 1] == '0')
+        length--;
+    return text[length - 1] == '.' ? length - 1 : length;
+}
+
+/* East of 180 degrees they are counted to the west. */
 static void write_degrees(int64_t millionths, int is_latitude, char *text)
 {
     int64_t east = ((millionths % TURN) + TURN) % TURN, turned = east > TURN / 2 ? east - TURN : east, number = is_latitude ? millionths : turned;
     const char *directions = is_latitude ? "SN" : "WE";
-    int has_direction = number != 0 && (is_latitude || number != TURN / 2);
-    int length = snprintf(text, TICK_ROOM, "%" PRId64 ".%06" PRId64, (number < 0 ? -number : number) / DEGREE, (number < 0 ? -number : number) % DEGREE);
-    while (text[length - 1] == '0')
-        length--;
-    if (text[length - 1] == '.')
-        length--;
+    int has_direction = number != 0 && (is_latitude || number != TURN / 2), length = write_millionths(number < 0 ? -number : number, text);
     snprintf(text + length, TICK_ROOM - (size_t)length, "%s%.*s", DEGREE_SIGN, has_direction, directions + (number > 0));
+}
+
+static void write_coordinate(const struct side *side, int64_t coordinate, char *text)
+{
+    if (side->marks != LENGTHS)
+        write_degrees(coordinate, side->marks == LATITUDES, text);
+    else {
+        int length = write_millionths(coordinate, text);
+        snprintf(text + length, TICK_ROOM - (size_t)length, " km");
+    }
+}
+
+/* How many pixels a length takes, and so many halves of a point with it, cut to a whole number. The length is taken apart into steps and a rest, because
+ * the product of a length and of all pixels can be more than an int64_t holds. It lies at most half a step below 0. */
+static int64_t pixels_of(const struct side *side, int64_t length, int64_t halves)
+{
+    int64_t in_steps = length * side->steps, rest = in_steps % side->step, whole = in_steps / side->step;
+    if (rest < 0) {
+        rest += side->step;
+        whole--;
+    }
+    return ((2 * whole + halves) * side->pixels + 2 * rest * side->pixels / side->step) / (2 * side->points);
 }
 
 static void add_tick(struct ruler *ruler, const struct side *side, int64_t coordinate)
 {
     struct tick *tick = &ruler->ticks[ruler->count++];
-    int64_t from_first = side->is_latitude ? side->first - coordinate : coordinate - side->first, pixels = (int64_t)side->pixels;
+    int64_t from_first = side->marks == LATITUDES ? side->first - coordinate : coordinate - side->first;
     /* A point lies in the middle of its pixels. */
-    tick->at = side->pixels / 2;
-    if (from_first != 0)
-        tick->at = (size_t)((2 * from_first * (side->points - 1) + side->span) * pixels / (2 * side->span));
-    write_degrees(coordinate, side->is_latitude, tick->text);
+    tick->at = (size_t)(from_first != 0 ? pixels_of(side, from_first, 1) : side->pixels / (2 * side->points));
+    write_coordinate(side, coordinate, tick->text);
 }
 
 static int64_t smaller_number(int64_t a, int64_t b)
@@ -134,13 +179,14 @@ static int64_t smaller_number(int64_t a, int64_t b)
     return a < b ? a : b;
 }
 
-/* The multiples of a round step along the side, from half a step before its first point to half a step behind its last. */
+/* The multiples of a round step along the side, from half a step before its first point to half a step behind its last. No latitude lies past a pole, and
+ * lengths are counted from the first point. */
 static struct ruler rule(const struct side *side, int64_t round)
 {
     struct ruler ruler = {0, {{0, ""}}};
-    int64_t half = side->span / (2 * (side->points - 1)), low = side->is_latitude ? side->first - side->span : side->first;
-    int64_t from = low - half, to = low + side->span + half;
-    if (side->is_latitude) {
+    int64_t half = side->step / (2 * side->steps), low = side->marks == LATITUDES ? side->first - side->span : side->first;
+    int64_t from = side->marks == LENGTHS ? 0 : low - half, to = low + side->span + half;
+    if (side->marks == LATITUDES) {
         from = -smaller_number(-from, POLE);
         to = smaller_number(to, POLE);
     }
@@ -177,20 +223,32 @@ static size_t widest(const struct ruler *ruler)
 
 enum { MARGIN = 8, GAP = 8, SCALE_HEIGHT = 8, LABEL_GAP = 4, BOX = 7, TICK = 3, FEWEST_LETTERS = 40 };
 
+/* The round step of this number: 1, 2, 5, 10 and so on, as far as a grid reaches. Above 20 degrees they are those that divide a half turn. 0 comes behind the
+ * last. */
+static int64_t round_step(enum marks marks, size_t i)
+{
+    static const int64_t digits[] = {1, 2, 5}, large_angles[] = {30 * DEGREE, 45 * DEGREE, 90 * DEGREE, 180 * DEGREE, 0};
+    enum { FIRST_LARGE_ANGLE = 23, LENGTHS_END = 45 };
+    int64_t unit = 1;
+    if (marks != LENGTHS && i >= FIRST_LARGE_ANGLE)
+        return large_angles[i - FIRST_LARGE_ANGLE];
+    for (size_t power = 0; power < i / 3; power++)
+        unit = 10 * unit;
+    return i < LENGTHS_END ? digits[i % 3] * unit : 0;
+}
+
 /* The ticks of a side: as many as leave room for what is written, and not more than nine. Where no round number lies on the side, its first point is told. */
 static struct ruler make_ruler(const struct side *side, size_t dot)
 {
-    static const int64_t rounds[] = {1, 2, 5, 10, 20, 50, 100, 200, 500, 1000, 2000, 5000, 10000, 20000, 50000, 100000, 200000, 500000, DEGREE, 2 * DEGREE,
-                                     5 * DEGREE, 10 * DEGREE, 20 * DEGREE, 30 * DEGREE, 45 * DEGREE, 90 * DEGREE, 180 * DEGREE};
-    enum { ROUNDS = sizeof rounds / sizeof *rounds, MOST_SPACES = 8 };
+    enum { MOST_SPACES = 8 };
     struct ruler ruler = {0, {{0, ""}}};
     int can_be_ruled = side->points > 1 && side->span > 0;
-    for (size_t i = 0; i < ROUNDS && can_be_ruled; i++) {
-        size_t distance = (size_t)(rounds[i] * (side->points - 1) * (int64_t)side->pixels / side->span);
-        if (distance * MOST_SPACES < (size_t)side->points * side->pixels)
+    for (size_t i = 0; can_be_ruled && round_step(side->marks, i) > 0; i++) {
+        int64_t round = round_step(side->marks, i), distance = pixels_of(side, round, 0);
+        if (distance * MOST_SPACES < side->pixels)
             continue;
-        ruler = rule(side, rounds[i]);
-        if (distance >= (side->is_latitude ? LINE_PITCH : widest(&ruler) + GAP) * dot)
+        ruler = rule(side, round);
+        if ((size_t)distance >= (side->is_upright ? LINE_PITCH : widest(&ruler) + GAP) * dot)
             break;
     }
     if (ruler.count == 0)
@@ -200,13 +258,13 @@ static struct ruler make_ruler(const struct side *side, size_t dot)
 
 /* ---- Layout */
 
-/* Where things are, in pixels from the left and from the top. `side` is how many pixels a point is wide and high, and `dot` how many a dot is. The scale
- * begins where the field does, and `scale_width` is how wide it is. */
+/* Where things are, in pixels from the left and from the top. `dot` is how many pixels a dot is wide and high. The scale begins where the field does, and
+ * `scale_width` is how wide it is. `beside` is marked at the left side of the field, and `below` at its foot. */
 struct layout {
-    size_t side, dot, width, height;
+    size_t dot, width, height;
     size_t field_left, field_top, field_width, field_height;
     size_t scale_width, scale_top, label_top, legend_top;
-    struct ruler latitudes, longitudes;
+    struct ruler beside, below;
     struct labels labels;
 };
 
@@ -283,8 +341,8 @@ static size_t least_width(const struct subject *subject, const struct labels *la
 /* From left to right. There is room for half of what is written at the first tick below the field, and at the last. */
 static void lay_out_columns(struct layout *at, const struct subject *subject)
 {
-    const struct tick *first = &at->longitudes.ticks[0], *last = &at->longitudes.ticks[at->longitudes.count - 1];
-    size_t beside = (widest(&at->latitudes) + LABEL_GAP + TICK + MARGIN) * at->dot, before = (text_width(first->text) / 2 + MARGIN) * at->dot;
+    const struct tick *first = &at->below.ticks[0], *last = &at->below.ticks[at->below.count - 1];
+    size_t beside = (widest(&at->beside) + LABEL_GAP + TICK + MARGIN) * at->dot, before = (text_width(first->text) / 2 + MARGIN) * at->dot;
     at->field_left = larger(beside, before > first->at ? before - first->at : 0);
     at->scale_width = larger(at->field_width, least_width(subject, &at->labels) * at->dot);
     at->width = at->field_left + larger(at->scale_width, last->at + (text_width(last->text) / 2 + 1) * at->dot) + MARGIN * at->dot;
@@ -308,21 +366,40 @@ static void lay_out_rows(struct layout *at, const struct subject *subject)
     at->height += MARGIN * dot;
 }
 
+/* The longer side of a small field gets about so many pixels. */
+enum { AIM = 512 };
+
+static size_t rounded(size_t dividend, size_t divisor)
+{
+    return (dividend + divisor / 2) / divisor;
+}
+
+/* A point of a grid in degrees is a square of whole pixels. A Lambert grid gets the shape that it has on the sheet: along the shorter of its steps each point
+ * has the same number of whole pixels, and along the longer one it has as many more as the step is longer, up to a limit that keeps the picture small. */
+static void size_field(struct layout *at, const struct skeptolyr_field *field)
+{
+    enum { LARGEST_SIDE = 64, MOST_STRETCHED = 8 };
+    size_t columns = (size_t)field->ni, rows = (size_t)field->nj;
+    size_t dx = is_on_sheet(field) ? (size_t)field->lambert.dx : 1, dy = is_on_sheet(field) ? (size_t)field->lambert.dy : 1, step = smaller(dx, dy);
+    dx = smaller(dx, MOST_STRETCHED * step);
+    dy = smaller(dy, MOST_STRETCHED * step);
+    size_t longer = larger(rounded(columns * dx, step), rounded(rows * dy, step));
+    size_t side = smaller(larger(rounded(AIM, longer), 1), LARGEST_SIDE);
+    at->field_width = rounded(columns * side * dx, step);
+    at->field_height = rounded(rows * side * dy, step);
+}
+
 /* Large fields get large dots, so that words can still be read when such a picture is looked at as a whole. */
 static struct layout lay_out(const struct subject *subject)
 {
-    enum { AIM = 512, LARGEST_SIDE = 64 };
     const struct skeptolyr_field *field = &subject->decoded->field;
-    size_t columns = (size_t)field->ni, rows = (size_t)field->nj, longer = larger(columns, rows);
     struct layout at;
     memset(&at, 0, sizeof at);
-    at.side = smaller(larger((AIM + longer / 2) / longer, 1), LARGEST_SIDE);
-    at.field_width = columns * at.side;
-    at.field_height = rows * at.side;
+    size_field(&at, field);
     at.dot = 2 * larger(smaller(at.field_width, at.field_height) / AIM, 1);
-    struct side south = south_side(field, at.side), east = east_side(field, at.side);
-    at.latitudes = make_ruler(&south, at.dot);
-    at.longitudes = make_ruler(&east, at.dot);
+    struct side upright = upright_side(field, at.field_height), level = level_side(field, at.field_width);
+    at.beside = make_ruler(&upright, at.dot);
+    at.below = make_ruler(&level, at.dot);
     at.labels = label_scale(subject);
     lay_out_columns(&at, subject);
     lay_out_rows(&at, subject);
@@ -372,20 +449,23 @@ static void draw_words(struct picture *picture, const struct layout *at, const s
     }
 }
 
-/* North is on top: point 0 is the north-west one, and the rows follow southward. */
+/* Point 0 is in the upper left, which is the north-west of a grid in degrees, and the rows follow downward. Where a point cannot have a whole number of
+ * pixels, some have one more than others. */
 static void draw_field(struct picture *picture, const struct layout *at, const struct subject *subject)
 {
     const struct decoded *decoded = subject->decoded;
     size_t columns = (size_t)decoded->field.ni, rows = (size_t)decoded->field.nj;
     fill_framed(picture, at->field_left, at->field_top, at->field_width, at->field_height, at->dot / 2, BACKGROUND);
-    for (size_t row = 0; row < rows; row++) {
-        uint8_t *pixels = picture->pixels + (at->field_top + row * at->side) * picture->width + at->field_left;
+    for (size_t row = 0, top = 0, bottom; row < rows; row++, top = bottom) {
+        uint8_t *pixels = picture->pixels + (at->field_top + top) * picture->width + at->field_left;
+        bottom = (row + 1) * at->field_height / rows;
         show_progress("drawing the field", row, rows);
-        for (size_t column = 0; column < columns; column++) {
+        for (size_t column = 0, left = 0, right; column < columns; column++, left = right) {
             size_t n = row * columns + column;
-            memset(pixels + column * at->side, decoded->presence[n] ? colour_of(&subject->scale, decoded->values[n]) : MISSING, at->side);
+            right = (column + 1) * at->field_width / columns;
+            memset(pixels + left, decoded->presence[n] ? colour_of(&subject->scale, decoded->values[n]) : MISSING, right - left);
         }
-        for (size_t line = 1; line < at->side; line++)
+        for (size_t line = 1; line < bottom - top; line++)
             memcpy(pixels + line * picture->width, pixels, at->field_width);
     }
 }
@@ -393,14 +473,14 @@ static void draw_field(struct picture *picture, const struct layout *at, const s
 static void draw_coordinates(struct picture *picture, const struct layout *at)
 {
     size_t dot = at->dot, line = dot / 2, bottom = at->field_top + at->field_height;
-    for (size_t i = 0; i < at->longitudes.count; i++) {
-        const struct tick *tick = &at->longitudes.ticks[i];
+    for (size_t i = 0; i < at->below.count; i++) {
+        const struct tick *tick = &at->below.ticks[i];
         size_t x = at->field_left + tick->at, width = text_width(tick->text) * dot;
         fill(picture, x - line / 2, bottom + line, line, TICK * dot, INK);
         draw_text(picture, x - width / 2, bottom + (TICK + LABEL_GAP) * dot, dot, tick->text);
     }
-    for (size_t i = 0; i < at->latitudes.count; i++) {
-        const struct tick *tick = &at->latitudes.ticks[i];
+    for (size_t i = 0; i < at->beside.count; i++) {
+        const struct tick *tick = &at->beside.ticks[i];
         size_t y = at->field_top + tick->at, right = at->field_left - (TICK + LABEL_GAP) * dot;
         fill(picture, at->field_left - TICK * dot - line, y - line / 2, TICK * dot, line, INK);
         draw_text(picture, right - text_width(tick->text) * dot, y - DIGIT_HEIGHT * dot / 2, dot, tick->text);

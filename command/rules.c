@@ -48,13 +48,14 @@ static const struct row table[] = {
     FREE(1, 21, 21, "type of data", NUMBER, ALWAYS),
     TOGETHER(1, 13, 19, "13-19", "reference time", ALWAYS, "a day that the month has", judge_calendar),
 
-    ROW(3, 1, 4, "length of the section", NUMBER, ALWAYS, EXACTLY(72), ""),
+    JUDGED(3, 1, 4, "length of the section", NUMBER, ALWAYS, BETWEEN(72, 81), "", judge_either),
     ROW(3, 5, 5, "number of the section", NUMBER, ALWAYS, EXACTLY(3), ""),
     ROW(3, 6, 6, "source of the grid definition", NUMBER, ALWAYS, EXACTLY(0), ""),
     ROW(3, 7, 10, "point count", NUMBER, ALWAYS, BETWEEN(0, SKEPTOLYR_MOST_POINTS), ""),
     ROW(3, 11, 11, "octets of the list of row lengths", NUMBER, ALWAYS, EXACTLY(0), ""),
     ROW(3, 12, 12, "meaning of that list", NUMBER, ALWAYS, EXACTLY(0), ""),
-    ROW(3, 13, 14, "template of the grid", NUMBER, ALWAYS, EXACTLY(0), ""),
+    JUDGED(3, 13, 14, "template of the grid", NUMBER, ALWAYS, BETWEEN(0, 30), ", in degrees or Lambert", judge_either),
+    TOGETHER(3, 13, 14, "1-4, 13-14", "length and template", ALWAYS, "72 and 0, or 81 and 30", judge_length_and_template),
     JUDGED(3, 15, 15, "earth code", NUMBER, GRID, BETWEEN(1, 6), "", judge_either),
     ROW(3, 16, 16, "factor of the radius", NUMBER, OWN_RADIUS, EXACTLY(0), ""),
     ROW(3, 17, 20, "radius of the earth in metres", NUMBER, OWN_RADIUS, BETWEEN(1, 4294967294), ""),
@@ -66,20 +67,33 @@ static const struct row table[] = {
     FREE(3, 27, 30, "scaled shorter axis of the earth", NUMBER, GRID),
     ROW(3, 31, 34, "Ni, the points in a row", NUMBER, GRID, BETWEEN(1, 65535), ""),
     ROW(3, 35, 38, "Nj, the rows", NUMBER, GRID, BETWEEN(1, 65535), ""),
-    ROW(3, 39, 42, "basic angle", NUMBER, GRID, EXACTLY(0), ""),
-    ROW(3, 43, 46, "subdivisions of the basic angle", NUMBER, GRID, EXACTLY(UINT32_MAX), ": millionths of a degree"),
-    ROW(3, 47, 50, "latitude of the first point", SIGNED, GRID, BETWEEN(-90000000, 90000000), ""),
-    ROW(3, 51, 54, "longitude of the first point", NUMBER, GRID, BETWEEN(0, 359999999), ""),
-    ROW(3, 55, 55, "resolution and component flags", HEXADECIMAL, GRID, EXACTLY(0x30), ""),
-    ROW(3, 56, 59, "latitude of the last point", SIGNED, GRID, BETWEEN(-90000000, 90000000), ""),
-    ROW(3, 60, 63, "longitude of the last point", NUMBER, GRID, BETWEEN(0, 359999999), ""),
-    ROW(3, 64, 67, "Di, the step east", NUMBER, GRID, NO_LIMIT, "judged below"),
-    ROW(3, 68, 71, "Dj, the step south", NUMBER, GRID, NO_LIMIT, "judged below"),
-    ROW(3, 72, 72, "scanning mode", HEXADECIMAL, GRID, EXACTLY(0), ": eastward, then southward"),
+    ROW(3, 39, 42, "basic angle", NUMBER, DEGREES, EXACTLY(0), ""),
+    ROW(3, 43, 46, "subdivisions of the basic angle", NUMBER, DEGREES, EXACTLY(UINT32_MAX), ": millionths of a degree"),
+    ROW(3, 47, 50, "latitude of the first point", SIGNED, DEGREES, BETWEEN(-90000000, 90000000), ""),
+    ROW(3, 51, 54, "longitude of the first point", NUMBER, DEGREES, BETWEEN(0, 359999999), ""),
+    ROW(3, 55, 55, "resolution and component flags", HEXADECIMAL, DEGREES, EXACTLY(0x30), ""),
+    ROW(3, 56, 59, "latitude of the last point", SIGNED, DEGREES, BETWEEN(-90000000, 90000000), ""),
+    ROW(3, 60, 63, "longitude of the last point", NUMBER, DEGREES, BETWEEN(0, 359999999), ""),
+    ROW(3, 64, 67, "Di, the step east", NUMBER, DEGREES, NO_LIMIT, "judged below"),
+    ROW(3, 68, 71, "Dj, the step south", NUMBER, DEGREES, NO_LIMIT, "judged below"),
+    ROW(3, 72, 72, "scanning mode", HEXADECIMAL, DEGREES, EXACTLY(0), ": eastward, then southward"),
+    ROW(3, 39, 42, "latitude of the first point", SIGNED, LAMBERT, BETWEEN(-90000000, 90000000), ""),
+    ROW(3, 43, 46, "longitude of the first point", NUMBER, LAMBERT, BETWEEN(0, 359999999), ""),
+    ROW(3, 47, 47, "resolution and component flags", HEXADECIMAL, LAMBERT, EXACTLY(0x08), ""),
+    ROW(3, 48, 51, "LaD, latitude of stated lengths", SIGNED, LAMBERT, BETWEEN(-90000000, 90000000), ""),
+    ROW(3, 52, 55, "LoV, the upright meridian", NUMBER, LAMBERT, BETWEEN(0, 359999999), ""),
+    ROW(3, 56, 59, "Dx, thousandths of a metre right", NUMBER, LAMBERT, BETWEEN(1, INT32_MAX), ""),
+    ROW(3, 60, 63, "Dy, thousandths of a metre down", NUMBER, LAMBERT, BETWEEN(1, INT32_MAX), ""),
+    ROW(3, 64, 64, "projection centre", HEXADECIMAL, LAMBERT, EXACTLY(0), ""),
+    ROW(3, 65, 65, "scanning mode", HEXADECIMAL, LAMBERT, EXACTLY(0), ": rightward, then downward"),
+    ROW(3, 66, 69, "Latin 1, first cutting latitude", SIGNED, LAMBERT, BETWEEN(-90000000, 90000000), ""),
+    ROW(3, 70, 73, "Latin 2, second cutting latitude", SIGNED, LAMBERT, BETWEEN(-90000000, 90000000), ""),
+    FREE(3, 74, 77, "latitude of the southern pole", SIGNED, LAMBERT),
+    FREE(3, 78, 81, "longitude of the southern pole", NUMBER, LAMBERT),
     TOGETHER(3, 7, 38, "7-10, 31-38", "point count and Ni x Nj", GRID, "equal", judge_point_count),
-    TOGETHER(3, 47, 59, "47-50, 56-59", "first latitude and last latitude", GRID, "from north to south, or equal", judge_latitudes),
-    TOGETHER(3, 31, 67, "31-34, 51-54, 60-67", "span east, (Ni - 1) x Di", GRID, "", judge_span_east),
-    TOGETHER(3, 35, 71, "35-38, 47-50, 56-59, 68-71", "span south, (Nj - 1) x Dj", GRID, "", judge_span_south),
+    TOGETHER(3, 47, 59, "47-50, 56-59", "first latitude and last latitude", DEGREES, "from north to south, or equal", judge_latitudes),
+    TOGETHER(3, 31, 67, "31-34, 51-54, 60-67", "span east, (Ni - 1) x Di", DEGREES, "", judge_span_east),
+    TOGETHER(3, 35, 71, "35-38, 47-50, 56-59, 68-71", "span south, (Nj - 1) x Dj", DEGREES, "", judge_span_south),
 
     JUDGED(4, 1, 4, "length of the section", NUMBER, ALWAYS, BETWEEN(34, 58), "", judge_either),
     ROW(4, 5, 5, "number of the section", NUMBER, ALWAYS, EXACTLY(4), ""),
@@ -181,10 +195,13 @@ static int is_about(const struct row *row, const struct sections *sections)
 {
     uint64_t grid = number_at(sections, 3, 13, 14), earth = octet_at(sections, 3, 15), product = number_at(sections, 4, 8, 9);
     uint64_t packing = number_at(sections, 5, 10, 11);
+    int is_grid = grid == 0 || grid == 30;
     switch (row->when) {
-    case GRID: return grid == 0;
-    case OWN_RADIUS: return grid == 0 && earth == 1;
-    case OTHER_RADIUS: return grid == 0 && earth != 1;
+    case GRID: return is_grid;
+    case OWN_RADIUS: return is_grid && earth == 1;
+    case OTHER_RADIUS: return is_grid && earth != 1;
+    case DEGREES: return grid == 0;
+    case LAMBERT: return grid == 30;
     case PRODUCT: return product == 0 || product == 8;
     case INTERVAL: return product == 8;
     case PACKING: return packing == 0 || packing == 3;

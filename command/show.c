@@ -27,10 +27,16 @@ static void print_section(int number, int64_t start)
     printf("\nsection %d, at octet %" PRId64 "\n", number, start);
 }
 
-static void print_degrees(const char *name, int64_t millionths)
+static void print_degrees(const char *name, int64_t millionths, const char *meaning)
 {
     char text[WORDS_ROOM];
-    print_line(name, degrees_in_words(millionths, text), "degrees");
+    print_line(name, degrees_in_words(millionths, text), meaning);
+}
+
+static void print_metres(const char *name, int64_t thousandths, const char *meaning)
+{
+    char text[WORDS_ROOM];
+    print_line(name, metres_in_words(thousandths, text), meaning);
 }
 
 static void show_identification(const struct skeptolyr_field *field)
@@ -43,20 +49,40 @@ static void show_identification(const struct skeptolyr_field *field)
     print_line("reference time", time_in_words(&field->reference, text), " UTC, when the forecast starts");
 }
 
+static void show_degrees(const struct skeptolyr_field *field)
+{
+    print_degrees("last latitude", field->last.latitude, "degrees");
+    print_degrees("last longitude", field->last.longitude, "degrees");
+    print_degrees("step east Di", field->di, "degrees");
+    print_degrees("step south Dj", field->dj, "degrees");
+}
+
+/* The standard's own short names stand there too, because other readers have them. */
+static void show_lambert(const struct skeptolyr_lambert *lambert)
+{
+    print_degrees("stated latitude", lambert->stated_latitude, "degrees, LaD: where Dx and Dy are lengths on the earth");
+    print_degrees("upright meridian", lambert->upright_meridian, "degrees, LoV");
+    print_metres("step right Dx", lambert->dx, "m");
+    print_metres("step down Dy", lambert->dy, "m");
+    print_degrees("cutting latitude 1", lambert->cutting_latitude_1, "degrees, Latin 1");
+    print_degrees("cutting latitude 2", lambert->cutting_latitude_2, "degrees, Latin 2");
+}
+
 static void show_grid(const struct skeptolyr_field *field)
 {
     print_section(3, field->starts.section_3);
+    print_number("grid template", field->grid_template, is_on_sheet(field) ? "a Lambert grid" : "a grid in degrees");
     print_number("earth's shape", field->earth, field->earth == 1 ? "a sphere of the radius that is given" : "a sphere of the standard's radius");
     print_number("radius", field->radius, "m");
     print_number("columns Ni", field->ni, "points in a row");
     print_number("rows Nj", field->nj, "");
     print_number("points", field->points, "Ni x Nj");
-    print_degrees("first latitude", field->first.latitude);
-    print_degrees("first longitude", field->first.longitude);
-    print_degrees("last latitude", field->last.latitude);
-    print_degrees("last longitude", field->last.longitude);
-    print_degrees("step east Di", field->di);
-    print_degrees("step south Dj", field->dj);
+    print_degrees("first latitude", field->first.latitude, "degrees");
+    print_degrees("first longitude", field->first.longitude, "degrees");
+    if (is_on_sheet(field))
+        show_lambert(&field->lambert);
+    else
+        show_degrees(field);
 }
 
 static void show_level(const struct skeptolyr_field *field)

@@ -553,13 +553,33 @@ char *times_in_words(const struct skeptolyr_field *field, char *text)
     return text;
 }
 
-/* ---- Angles and packing */
+/* ---- Grids and packing */
 
 /* Degrees with six decimals, which are exact; below 0 in the south. */
 char *degrees_in_words(int64_t millionths, char *text)
 {
     int64_t size = millionths < 0 ? -millionths : millionths;
     snprintf(text, WORDS_ROOM, "%s%" PRId64 ".%06" PRId64, millionths < 0 ? "-" : "", size / 1000000, size % 1000000);
+    return text;
+}
+
+/* Metres with three decimals, which are exact. No length of a grid is below 0. */
+char *metres_in_words(int64_t thousandths, char *text)
+{
+    snprintf(text, WORDS_ROOM, "%" PRId64 ".%03" PRId64, thousandths / 1000, thousandths % 1000);
+    return text;
+}
+
+int is_on_sheet(const struct skeptolyr_field *field)
+{
+    enum { LAMBERT_TEMPLATE = 30 };
+    return field->grid_template == LAMBERT_TEMPLATE;
+}
+
+/* Columns x rows. Most grids are in degrees, so the kind is told of the others. */
+char *grid_in_words(const struct skeptolyr_field *field, char *text)
+{
+    snprintf(text, WORDS_ROOM, "%" PRId64 " x %" PRId64 "%s", field->ni, field->nj, is_on_sheet(field) ? ", Lambert" : "");
     return text;
 }
 

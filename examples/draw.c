@@ -2,7 +2,8 @@
  *
  *     draw FILE FIELD PICTURE.ppm
  *
- * Each point is one pixel, north is on top, low values are blue, high ones are yellow, and missing points are grey.
+ * Each point is one pixel, the first row is on top, low values are blue, high ones are yellow, and missing points are grey. On a grid in degrees the first
+ * row is the northernmost one, and on a Lambert grid it is the upper edge of the map.
  *
  * It ends with 1 where the file or the field is refused, and with 2 where anything else is wrong. The command `skeptolyr draw` makes larger pictures, with
  * coordinates and a scale. */

@@ -2,7 +2,7 @@
 import os
 from typing import NamedTuple, Optional
 
-from samples import islands
+from samples import islands, lows
 from tests.help import grib
 
 HERE = os.path.dirname(os.path.abspath(__file__))
@@ -10,14 +10,19 @@ TOO_LONG = 268435457
 
 
 class Refusal(NamedTuple):
-    """A refusal that the rules give, by its number and place; the file and the field that are asked about; what is wrong there; and, where that
-    is what is wrong, how many points the lent runs have room for."""
+    """A refusal that the rules give, by its number and place; the file and the field that are asked about; and what is wrong there. Where that is what is
+    wrong, it also has how many points the lent runs have room for, or the number of the point whose place in degrees is asked for."""
     number: int
     place: int
     file: str
     what: str
     field: int = 0
     room: Optional[int] = None
+    point: Optional[int] = None
+
+    def is_for_commands(self):
+        """Does a program get it that has room for any field and asks for no place that a field does not have? Such a one is never given 15, 17 or 20."""
+        return self.room is None and self.point is None
 
 
 # One of each that C can be given. Every file is one of `samples`, but for the first: it is TOO_LONG octets of zero, which are not kept.
@@ -38,6 +43,8 @@ REFUSALS = [
     Refusal(14, 200, 'refused/14-groups.grib2', 'groups of nine values in all, and ten values'),
     Refusal(15, 0, 'two-fields.grib2', 'a field of four points, and arrays with room for three', room=3),
     Refusal(16, 200, 'refused/16-difference.grib2', 'differences that lead to an integer below 0'),
+    Refusal(17, 0, 'two-fields.grib2', 'a field of four points, which are counted from 0 to 3', point=4),
+    Refusal(20, 0, 'lambert.grib2', 'degrees are asked for, and the grid is a Lambert grid', point=0),
 ]
 
 
@@ -67,6 +74,7 @@ def samples():
         # The file of RULES, "Listing": one message, two fields.
         'two-fields.grib2': two,
         'islands.grib2': islands.file(),
+        'lambert.grib2': lows.file(),
         # The accident: a transfer was cut inside the first message's second field, and the next message followed directly.
         'accident.grib2': two[:210] + two,
         **{'refused/%s.grib2' % name: file for name, file in refused().items()},
@@ -79,6 +87,7 @@ def table():
         asked = refusal.file if refusal.number == 1 else '[%s](%s)' % (refusal.file, refusal.file)
         asked += ', field %d' % refusal.field if refusal.field else ''
         asked += ', room for %d points' % refusal.room if refusal.room else ''
+        asked += ', latitude and longitude of point %d' % refusal.point if refusal.point is not None else ''
         yield '| %d | %d | %s | %s |' % (refusal.number, refusal.place, asked, refusal.what)
 
 

@@ -12,7 +12,8 @@ docs/man/PAGE.in. There @VERSION@ is the header's version, and a line that start
   @returns NAME        what it returns
   @functions NAME..    a list of functions, each with its comment
   @structs NAME..      a list of structs, each with its comment, and with its members where they have no comments of their own
-  @numbers NAME        a list of a struct's members, each with its place where the struct is a run of numbers, and with its comment
+  @numbers NAME FIRST  a list of a struct's members, each with its place where the struct is a run of numbers that starts at FIRST, or at 0, and with its
+                       comment
   @constants           a list of the constants that are defined, with their comments
   @order               the comment on all refusals
   @refusals            a list of the refusals: constant, number, place and text
@@ -205,9 +206,9 @@ class Writer:
                 lines += ['Its members are \\fB%s\\fP: %s.' % (kind, listed(names.split(', '))) for kind, names in zip(kinds, joined)]
         return lines
 
-    def numbers(self, name):
+    def numbers(self, name, first='0'):
         """A member that has no comment stands with the one before it, or has the comment of its struct."""
-        place, rows = 0, []
+        place, rows = int(first), []
         for kind, joined, comment in self.header.structs[name]:
             text = comment or self.header.struct_comments.get(kind, '')
             for member in joined.split(', '):
