@@ -196,7 +196,7 @@ def nothing_asked_of_users():
 
 
 # The functions whose answer is a part of the file, of which the octets are seen, and not where they lie: docs/DEMANDS.md, "Any two outcomes are equal".
-SEEN = {'section.octets_in': '_ (λ _. now)', 'section_6.bitmap_in': '_ (λ _. now)'}
+SEEN = {'section.octets_in': '_ (λ _. now)', 'section_6.bitmap_in_force': '_ (λ _. now)'}
 
 
 def outcome_of(function):

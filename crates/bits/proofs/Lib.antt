@@ -1,3 +1,3 @@
 -- The laws of bits that other proofs cite.
 pub mod Laws
-pub mod Pairs
+pub mod Fours

@@ -1,3 +1,3 @@
--- What the numbers in a run of bits are, and how many of them are read two or four at a time.
+-- What the numbers in a run of bits are, and how many of them are read four at a time.
 pub mod Bits
-pub mod Pairs
+pub mod Fours

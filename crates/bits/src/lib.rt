@@ -4,7 +4,7 @@ ghost use Prim.Native.Nat.{_+_, _-_, _*_, _/_, _%_, _^_, _≤_, _<_};
 ghost use lib.ListN.{length};
 ghost use Rattle.octets.specs.Numbers.{octetAt, numberAt};
 ghost use Rattle.bits.specs.Bits.{bitAt, bitsAt, octetsOf};
-ghost use Rattle.bits.specs.Pairs.{pairsIn, FourFound};
+ghost use Rattle.bits.specs.Fours.{foursIn, FourFound};
 use octets::BitPlace;
 
 // Two numbers that stand one behind the other.
@@ -155,25 +155,25 @@ pub fn read_four(run: &[u8], at: BitPlace, b: u32) -> Four
     }
 }
 
-// How many pairs of `count` numbers of b bits, one behind the other from a place on, are read two at a time from so many octets: those of all
+// How many fours of `count` numbers of b bits, one behind the other from a place on, are read four at a time from so many octets: those of all
 // numbers, or of all but the last 64, where eight octets are left behind them, and else none. Numbers of more bits than half a window are not.
-pub fn pairs_in(octets: usize, from: BitPlace, b: u32, count: usize) -> usize
+pub fn fours_in(octets: usize, from: BitPlace, b: u32, count: usize) -> usize
     requires { ⌜ (from .0 ≤ 1099511627776) × (count ≤ 4294967296) ⌝ }
-    ensures { λ r. ⌜ r ≡ pairsIn octets (from .0) b count ⌝ }
+    ensures { λ r. ⌜ r ≡ foursIn octets (from .0) b count ⌝ }
 {
     if b > 28 {
         return 0;
     }
-    let all = count / 2;
-    if (from.0 + 2 * all * b as usize) / 8 + 8 <= octets {
+    let all = count / 4;
+    if (from.0 + 4 * all * b as usize) / 8 + 8 <= octets {
         return all;
     }
     // The last 64 numbers take at least eight octets, unless each takes no bit.
     if count < 64 {
         return 0;
     }
-    let fewer = (count - 64) / 2;
-    if (from.0 + 2 * fewer * b as usize) / 8 + 8 <= octets {
+    let fewer = (count - 64) / 4;
+    if (from.0 + 4 * fewer * b as usize) / 8 + 8 <= octets {
         return fewer;
     }
     0

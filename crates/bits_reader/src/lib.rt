@@ -122,7 +122,7 @@ pub fn take(run: &[u8], at: BitPlace, b: u32) -> Taken
 }
 
 // The two numbers of b bits at a place of a run in which eight octets are left, and the place behind them, by way of a reader.
-pub fn take_pair(run: &[u8], at: BitPlace, b: u32) -> TakenPair
+fn take_pair(run: &[u8], at: BitPlace, b: u32) -> TakenPair
     requires { ⌜ (at .0 / 8 + 8 ≤ length (now run)) × (b ≤ 28) × (at .0 + 2 * b < 2 ^ 64) ⌝ }
     ensures { λ r. ⌜ PairTaken (now (run .entry)) (at .0) b r ⌝ }
 {
@@ -135,7 +135,7 @@ pub fn take_pair(run: &[u8], at: BitPlace, b: u32) -> TakenPair
 }
 
 // The four numbers of b bits at a place of a run in which eight octets are left, and the place behind them, by way of a reader.
-pub fn take_four(run: &[u8], at: BitPlace, b: u32) -> TakenFour
+fn take_four(run: &[u8], at: BitPlace, b: u32) -> TakenFour
     requires { ⌜ (at .0 / 8 + 8 ≤ length (now run)) × (b ≤ 14) × (at .0 + 4 * b < 2 ^ 64) ⌝ }
     ensures { λ r. ⌜ FourTaken (now (run .entry)) (at .0) b r ⌝ }
 {
@@ -146,5 +146,27 @@ pub fn take_four(run: &[u8], at: BitPlace, b: u32) -> TakenFour
         third: read.four.third,
         fourth: read.four.fourth,
         next: read.reader.at,
+    }
+}
+
+// The four numbers of at most 28 bits at a place of a run, with eight octets left behind the first two, and the place behind them: from one window where they
+// have at most 14 bits, and else from two.
+pub fn four_at(run: &[u8], at: BitPlace, b: u32) -> TakenFour
+    requires { ⌜ ((at .0 + 2 * b) / 8 + 8 ≤ length (now run)) × (b ≤ 28) × (at .0 + 4 * b < 2 ^ 64) ⌝ }
+    ensures { λ r. ⌜ FourTaken (now (run .entry)) (at .0) b r ⌝ }
+{
+    if b <= 14 {
+        return take_four(run, at, b);
+    }
+    let one = take_pair(run, at, b);
+    let between = one.next;
+    let two = take_pair(run, between, b);
+    let next = two.next;
+    TakenFour {
+        first: one.first,
+        second: one.second,
+        third: two.first,
+        fourth: two.second,
+        next,
     }
 }

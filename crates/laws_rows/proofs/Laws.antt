@@ -9,7 +9,7 @@ use borrow.Author.Tests.{ltb-true, ltb-false}
 use borrow.Rule.Slice.PartMut.{putMid}
 use lib.Dec.{ltb}
 use lib.ListN.{length, take, drop, set, getD, length-append, length-set, List·getD-append}
-use lib.Seq.{length-take-le, drop-length, set-at, drop-drop, drop-cons, getD-append-add, getD-at, getD-take, getD-drop}
+use lib.Seq.{length-take-le, take-all, take-append-le, drop-length, set-at, drop-drop, drop-cons, getD-append-add, getD-at, getD-take, getD-drop}
 use Rattle.octets.proofs.Cases.{split}
 use Rattle.laws_rows.specs.Rows.{row, laid, filled}
 
@@ -35,6 +35,17 @@ module _ {A : Type 0} where
       (λ last.
       let same : i ≡ n = omega (arith, ltb-false i n last) in
       getD-at (row f n) (f n) [] z i (row-length f n ∙ sym same) ∙ ap f (sym same))
+
+  -- The first elements of a row.
+  pub row-part : (f : ℕ → A) (n m : ℕ) → n ≤ m → take n (row f m) ≡ row f n
+  unfolding row
+  row-part f n zero h = let none : n ≡ 0 = omega arith in rw none refl
+  row-part f n (suc m) h =
+      split (ltb n (suc m))
+      (λ fewer. take-append-le n (row f m) (f m ∷ []) (omega (arith, row-length f m, ltb-true n (suc m) fewer)) ∙ row-part f n m (omega (arith, ltb-true n (suc m) fewer)))
+      (λ all.
+      let same : n ≡ suc m = omega (arith, ltb-false n (suc m) all) in
+      rw same (take-all (suc m) (row f (suc m)) (omega (arith, row-length f (suc m)))))
 
   -- A stretch that is filled has the elements of the row, and what lies outside it is as it was.
   module _ (f : ℕ → A) (at : ℕ) where
@@ -65,6 +76,16 @@ module _ {A : Type 0} where
       ∙ sym (ap (λ (k : ℕ). set (filled f at (i - at) run) k (f k)) place)
       ∙ sym (filled-more f at (i - at) run)
       ∙ ap (λ (n : ℕ). filled f at n run) longer
+
+  -- Four elements more, in a run that is filled from its start.
+  pub filled-four : (f : ℕ → A) (i : ℕ) (run now : List A) {a b c d : A} → now ≡ filled f 0 i run → a ≡ f i → b ≡ f (i + 1) → c ≡ f (i + 2) → d ≡ f (i + 3) →
+      set (set (set (set now i a) (i + 1) b) (i + 2) c) (i + 3) d ≡ filled f 0 (i + 4) run
+  filled-four f i run now so-far one two three last =
+      next (i + 3) (omega arith) (next (i + 2) (omega arith) (next (i + 1) (omega arith) (next i refl so-far one) two) three) last
+    where
+      next : (k : ℕ) {later : ℕ} → k + 1 ≡ later → {before : List A} {x : A} → before ≡ filled f 0 k run → x ≡ f k → set before k x ≡ filled f 0 later run
+      next k one-more {before} done same =
+          rw (sub-zero (k + 1)) at (filled-next f 0 k run before (omega arith) (rw (sub-zero k) done) same) ∙ ap (λ (n : ℕ). filled f 0 n run) one-more
 
   -- Stretches filled with the same elements are the same.
   pub filled-same : (f g : ℕ → A) (at n : ℕ) (run : List A) → ((i : ℕ) → at ≤ i → i < at + n → f i ≡ g i) → filled f at n run ≡ filled g at n run

@@ -1,13 +1,13 @@
 -- What is known of a field that is judged, for its decoding: its rows of doubles and marks are those that the fillings write.
 use mathlib.Core.Path.{_≡_, refl, sym, ap, ap₂, _∙_, subst}
 use mathlib.Core.List.{List}
-use Prim.Native.Nat.{ℕ, _-_, _*_, _≤_}
+use Prim.Native.Nat.{ℕ, _-_, _≤_}
 use native.Mathlib.Omega.{arith}
 use lib.IntN.{natAbs}
 use lib.ListN.{length}
 use lib.Ieee.{Float}
 use borrow.Rule.Slice.PartMut.{putMid}
-use Rattle.laws_rows.specs.Rows.{row, laid}
+use Rattle.laws_rows.specs.Rows.{laid}
 use Rattle.laws_rows.proofs.Laws.{row-length, row-same, part-laid}
 use Rattle.octets.specs.declared.FilePlace.{FilePlace}
 use Rattle.section.specs.Sections.{Lies, octetsIn}
@@ -15,13 +15,15 @@ use Rattle.tiling.specs.Tiling.{largest}
 use Rattle.section_3_geometry.specs.Geometry.{pointsOf}
 use Rattle.section_5.specs.declared.Template.the-variants as Template
 use Rattle.section_6.specs.declared.Marked.the-variants as Marked
-use Rattle.section_6.specs.declared.Presence as declaredPresence
+use Rattle.section_6.specs.declared.Presence as declared
 use Rattle.section_6.specs.declared.Presence.the-variants as Presence
-use Rattle.section_6.specs.Presence.{bitmapIn}
-use Rattle.section_6.proofs.Laws.{marked-own, marked-earlier, present-all, present-own, present-earlier, bitmap-length}
+use Rattle.section_6.specs.Presence.{presenceAt, bitmapInForce, BitmapLies}
+use Rattle.section_6.proofs.Laws.{marked-own, marked-earlier}
 use Rattle.section_7.specs.declared.Groups.{Groups}
 use Rattle.section_7.specs.declared.Data.the-variants as Data
 use Rattle.values_points.specs.Points.{pointValue, doubleAt}
+use Rattle.values_points.specs.Written.{Runs, marksIn, Filled}
+use Rattle.values_points.proofs.Marks.{field-marks, field-ranks}
 use Rattle.values_integers.specs.Integers.{simpleInteger}
 use Rattle.values_complex.specs.Complex.{sizeIn}
 use Rattle.question.specs.declared.Description.{Description}
@@ -29,10 +31,10 @@ use Rattle.question.specs.declared.Described.{Described}
 use Rattle.question.specs.declared.Described.the-variants as Described
 use Rattle.question.specs.Judge.{Asks, Known, integerOf, judge}
 use Rattle.question.proofs.Laws.{judge-placed, judged-values}
-use Rattle.question.proofs.Known.{located, judged, sections-laid, few-points, simple-template, groups-integers}
+use Rattle.question.proofs.Known.{located, judged, sections-laid, few-points, packed-present, simple-template, groups-integers}
 use Rattle.question_decode.specs.declared.Decoded.{Decoded}
 use Rattle.question_decode.specs.declared.Decoded.the-variants as Decoded
-use Rattle.question_decode.specs.Decoding.{packingBy, presentOf, rankOf, doubleOf, doublesOf, marksOf, MarkedBy, markedAt, outcomeBy, outcome, answerOf}
+use Rattle.question_decode.specs.Decoding.{packingBy, presentOf, rankOf, doubleOf, doublesOf, marksOf, outcomeBy, outcome, answerOf}
 
 module _ (file : List ℕ) (d : Description) (known : Known file d) where
   abbrev run : List ℕ
@@ -41,15 +43,40 @@ module _ (file : List ℕ) (d : Description) (known : Known file d) where
   abbrev points : ℕ
   points = pointsOf (d .grid)
 
-  -- The rows of a field, by what its integers, marks and ranks are known to be.
-  pub double-row : (x mark rank : ℕ → ℕ) → ((m : ℕ) → x m ≡ natAbs (integerOf file d m)) → ((i : ℕ) → presentOf file d i ≡ mark i) → ((i : ℕ) → rankOf file d i ≡ rank i) →
-      row (doubleAt (packingBy (d .representation)) x mark rank) points ≡ row (doubleOf file d) points
-  double-row x mark rank same marked ranked =
-      row-same (doubleAt (packingBy (d .representation)) x mark rank) (doubleOf file d) points
-      (λ i _. ap₂ (pointValue (packingBy (d .representation))) (sym (marked i)) (ap x (sym (ranked i)) ∙ same (rankOf file d i)))
+  -- The bitmap that tells which points are present, where it does.
+  abbrev pub bitmap : List ℕ
+  bitmap = bitmapInForce file (d .presence) points
 
-  pub mark-row : (mark : ℕ → ℕ) → ((i : ℕ) → presentOf file d i ≡ mark i) → row mark points ≡ row (presentOf file d) points
-  mark-row mark marked = row-same mark (presentOf file d) points (λ i _. sym (marked i))
+  pub bitmap-lies : BitmapLies file (d .presence) points
+  bitmap-lies = by (d .presence) refl
+    where
+      taken : (p : declared.Presence) → d .presence ≡ p → presenceAt file (located file d known .0 .starts .six .0) (located file d known .0 .bitmap) points (d .representation .n) ≡ Marked.As p
+      taken p e = judged file d known .ofSix ∙ ap Marked.As e
+
+      by : (p : declared.Presence) → d .presence ≡ p → BitmapLies file p points
+      by Presence.All e = refl
+      by (Presence.Own s) e =
+          let told = marked-own file (located file d known .0 .starts .six .0) (located file d known .0 .bitmap) points (d .representation .n) (taken (Presence.Own s) e) in
+          (subst (λ (p : FilePlace). Lies file (p .0)) (sym (told .0)) (sections-laid file d known .six), told .1)
+      by (Presence.Earlier s) e =
+          let told = marked-earlier file (located file d known .0 .starts .six .0) (located file d known .0 .bitmap) points (d .representation .n) (taken (Presence.Earlier s) e) in
+          (sections-laid file d known .stored s (told .0), told .1)
+
+  -- As many integers are packed as points are present.
+  pub packed-marked : d .representation .n ≡ marksIn bitmap .rank points
+  packed-marked = packed-present file d known ∙ field-ranks file (d .presence) points bitmap-lies points (omega arith)
+
+  -- The runs that are filled with the field's integers by its marks are the rows of the field.
+  pub field-rows : {x : ℕ → ℕ} (before : Runs) {after : Runs} → ((m : ℕ) → x m ≡ natAbs (integerOf file d m)) → length (before .doubles) ≡ points →
+      Filled (marksIn bitmap) (packingBy (d .representation)) x before after → (after .doubles ≡ doublesOf file d) × (after .marks ≡ marksOf file d)
+  field-rows {x} before same long filled =
+      let marks = field-marks file (d .presence) points bitmap-lies in
+      let ranks = field-ranks file (d .presence) points bitmap-lies in
+      let rows = rw long at filled in (
+        rows .0 ∙ row-same (doubleAt (packingBy (d .representation)) x (marksIn bitmap .mark) (marksIn bitmap .rank)) (doubleOf file d) points
+            (λ i l. ap₂ (pointValue (packingBy (d .representation))) (sym (marks i l)) (ap x (sym (ranks i (omega arith))) ∙ same (rankOf file d i))),
+        rows .1 ∙ row-same (marksIn bitmap .mark) (presentOf file d) points (λ i l. sym (marks i l)),
+      )
 
   pub simple-size : d .plan ≡ Data.Simple → (m : ℕ) → simpleInteger run (d .representation .bits) m ≡ natAbs (integerOf file d m)
   simple-size e m = by (simple-template file d known e)
@@ -59,49 +86,6 @@ module _ (file : List ℕ) (d : Description) (known : Known file d) where
 
   pub groups-size : {groups : Groups} → d .plan ≡ Data.Complex groups → (m : ℕ) → sizeIn run groups m ≡ natAbs (integerOf file d m)
   groups-size e m = ap natAbs (groups-integers file d known e m)
-
-  -- Where all points are present.
-  pub all-present : d .presence ≡ Presence.All → (i : ℕ) → presentOf file d i ≡ 1
-  all-present e i = rw e
-
-  pub all-ranked : d .presence ≡ Presence.All → (i : ℕ) → rankOf file d i ≡ i
-  all-ranked e i = rw e (present-all file points i)
-
-  -- Where a bitmap tells it, the section's own or an earlier one.
-  pub own-marked : (s : FilePlace) → d .presence ≡ Presence.Own s → MarkedBy file d (s .0)
-  own-marked s e =
-      let six = located file d known .0 .starts .six .0 in
-      let told = marked-own file six (located file d known .0 .bitmap) points (d .representation .n) (judged file d known .ofSix ∙ ap Marked.As e) in
-      record {
-        lies = subst (λ (p : FilePlace). Lies file (p .0)) (sym (told .0)) (sections-laid file d known .six);
-        fits = told .1;
-        present = λ i. rw e;
-        ranked = λ i. rw e (present-own file s points i);
-      }
-
-  pub earlier-marked : (s : FilePlace) → d .presence ≡ Presence.Earlier s → MarkedBy file d (s .0)
-  earlier-marked s e =
-      let six = located file d known .0 .starts .six .0 in
-      let told = marked-earlier file six (located file d known .0 .bitmap) points (d .representation .n) (judged file d known .ofSix ∙ ap Marked.As e) in
-      record {
-        lies = sections-laid file d known .stored s (told .0);
-        fits = told .1;
-        present = λ i. rw e;
-        ranked = λ i. rw e (present-earlier file s points i);
-      }
-
-  -- So a bitmap tells it where not all points are present.
-  pub not-all-marked : (d .presence ≡ Presence.All → ⊥) → MarkedBy file d (markedAt (d .presence))
-  not-all-marked some = by (d .presence) refl
-    where
-      by : (p : declaredPresence.Presence) → d .presence ≡ p → MarkedBy file d (markedAt p)
-      by Presence.All e = absurd (some e)
-      by (Presence.Own s) e = own-marked s e
-      by (Presence.Earlier s) e = earlier-marked s e
-
--- The bitmap has a bit for each point.
-pub marked-room : (file : List ℕ) (d : Description) (s : ℕ) → MarkedBy file d s → pointsOf (d .grid) ≤ 8 * length (bitmapIn file s (pointsOf (d .grid)))
-marked-room file d s m = omega (arith, bitmap-length file s (pointsOf (d .grid)) (m .lies) (m .fits))
 
 -- The field's stretch, lent on and given back, lies where it lay.
 module _ (file : List ℕ) (d : Description) (start end : ℕ) (points : end - start ≡ pointsOf (d .grid)) where

@@ -7,16 +7,12 @@ use lib.IntN.{natAbs}
 use lib.ListN.{length}
 use lib.Ieee.{Float}
 use Rattle.laws_rows.specs.Rows.{row, laid}
-use Rattle.section.specs.Sections.{Lies, lengthAt}
 use Rattle.refusals.specs.declared.Refusal.{Refusal}
-use Rattle.bits.specs.Bits.{bitAt}
 use Rattle.doubles.specs.declared.Packing.{Packing}
 use Rattle.doubles.specs.Doubles.{packingOf}
 use Rattle.section_3_geometry.specs.Geometry.{pointsOf}
 use Rattle.section_5.specs.declared.Representation.{Representation}
-use Rattle.section_6.specs.declared.Presence.{Presence}
-use Rattle.section_6.specs.declared.Presence.the-variants as Marks
-use Rattle.section_6.specs.Presence.{bitmapLength, bitmapIn, onesBefore, presentAt, presentBefore}
+use Rattle.section_6.specs.Presence.{presentAt, presentBefore}
 use Rattle.values_points.specs.Points.{doubleAt}
 use Rattle.question.specs.declared.Description.{Description}
 use Rattle.question.specs.declared.Described.{Described}
@@ -51,19 +47,6 @@ module _ (file : List ℕ) (d : Description) where
   -- A description that describe has given of this file, and whose integers have been judged besides.
   abbrev pub Decodable : Type 0
   Decodable = Known file d × (isDecodable file d ≡ true)
-
-  -- The bitmap of the section 6 at s tells which points are present.
-  pub record MarkedBy (s : ℕ) : Type 0 where
-    pub lies : Lies file s
-    pub fits : lengthAt file s ≡ bitmapLength (pointsOf (d .grid))
-    pub present : (i : ℕ) → presentOf i ≡ bitAt (bitmapIn file s (pointsOf (d .grid))) i
-    pub ranked : (i : ℕ) → rankOf i ≡ onesBefore (bitmapIn file s (pointsOf (d .grid))) i
-
--- Where the section 6 starts that tells which points are present. Where all are, none does.
-abbrev pub markedAt : Presence → ℕ
-markedAt Marks.All = 0
-markedAt (Marks.Own six) = six .0
-markedAt (Marks.Earlier six) = six .0
 
 -- Two runs that have an element for each point of the field.
 abbrev pub Stretch : Description → List Float → List ℕ → Type 0

@@ -6,16 +6,13 @@ ghost use lib.ListN.{length};
 ghost use Rattle.laws_rows.specs.Rows.{laid};
 ghost use Rattle.doubles.specs.Doubles.{Scaled};
 ghost use Rattle.section_3_geometry.specs.Geometry.{pointsOf};
-ghost use Rattle.section_6.specs.declared.Presence.the-variants as Marks;
 ghost use Rattle.question.specs.Judge.{hasRoom};
-ghost use Rattle.question_decode.specs.Decoding.{Decodable, MarkedBy, markedAt, Stretch, packingBy, doublesOf, marksOf, answer, valuesLeft, presenceLeft};
+ghost use Rattle.question_decode.specs.Decoding.{Decodable, Stretch, packingBy, doublesOf, marksOf, answer, valuesLeft, presenceLeft};
 use doubles::Packing;
-use octets::FilePlace;
 use question::Described;
 use question::Description;
 use refusals::Refusal;
 use section_5::Representation;
-use section_6::Presence;
 use section_7::Data;
 
 // The point count of the field that was decoded.
@@ -34,37 +31,9 @@ fn packing_of(representation: Representation) -> Packing
     doubles::packing_of(representation.r, e, d)
 }
 
-// Fills the field's stretch, where all its points are present.
-fn fill_all(file: &[u8], description: Description, values: &mut [f64], presence: &mut [u8])
-    requires { ⌜ (Decodable (now file) description) × (description .presence ≡ Marks.All) ⌝ }
-    requires { ⌜ Stretch description (now values) (now presence) ⌝ }
-    ensures { λ _. ⌜ now (values .exit) ≡ doublesOf (now (file .entry)) description ⌝ }
-    ensures { λ _. ⌜ now (presence .exit) ≡ marksOf (now (file .entry)) description ⌝ }
-{
-    let representation = description.representation;
-    let plan = description.plan;
-    let starts = description.starts;
-    let packing = packing_of(representation);
-    let section = section::octets_in(file, starts.seven);
-    match plan {
-        Data::Simple => {
-            values_simple::fill_all(section, representation.bits, packing, values, presence);
-        }
-        Data::Complex(groups) => {
-            values_complex::fill_all(section, groups, packing, values, presence);
-        }
-    }
-}
-
-// Fills it where the section 6 at `six` tells which points are present.
-fn fill_marked(
-    file: &[u8],
-    description: Description,
-    six: FilePlace,
-    values: &mut [f64],
-    presence: &mut [u8],
-)
-    requires { ⌜ (Decodable (now file) description) × (MarkedBy (now file) description (six .0)) ⌝ }
+// Fills the field's stretch of both runs.
+fn fill(file: &[u8], description: Description, values: &mut [f64], presence: &mut [u8])
+    requires { ⌜ Decodable (now file) description ⌝ }
     requires { ⌜ Stretch description (now values) (now presence) ⌝ }
     ensures { λ _. ⌜ now (values .exit) ≡ doublesOf (now (file .entry)) description ⌝ }
     ensures { λ _. ⌜ now (presence .exit) ≡ marksOf (now (file .entry)) description ⌝ }
@@ -73,50 +42,20 @@ fn fill_marked(
     let plan = description.plan;
     let starts = description.starts;
     let grid = description.grid;
+    let marks = description.presence;
+    let n = representation.n as u64;
     let packing = packing_of(representation);
     let section = section::octets_in(file, starts.seven);
-    let bitmap = section_6::bitmap_in(file, six, section_3_geometry::points_of(grid));
+    let bitmap = section_6::bitmap_in_force(file, marks, section_3_geometry::points_of(grid));
     match plan {
         Data::Simple => {
-            values_simple::fill_marked(
-                section,
-                bitmap,
-                representation.bits,
-                packing,
-                values,
-                presence,
-            );
+            let bits = representation.bits;
+            values_simple::fill(section, bitmap, bits, n, packing, values, presence);
         }
         Data::Complex(groups) => {
-            values_complex::fill_marked(section, bitmap, groups, packing, values, presence);
+            values_complex::fill(section, bitmap, groups, packing, values, presence);
         }
     }
-}
-
-// Where the section 6 starts that tells which points are present, if one does.
-fn marked_at(presence: Presence) -> FilePlace
-    ensures { λ r. ⌜ r .0 ≡ markedAt presence ⌝ }
-{
-    match presence {
-        Presence::All => FilePlace(0),
-        Presence::Own(six) => six,
-        Presence::Earlier(six) => six,
-    }
-}
-
-// Fills it, whichever way tells which points are present.
-fn fill(file: &[u8], description: Description, values: &mut [f64], presence: &mut [u8])
-    requires { ⌜ Decodable (now file) description ⌝ }
-    requires { ⌜ Stretch description (now values) (now presence) ⌝ }
-    ensures { λ _. ⌜ now (values .exit) ≡ doublesOf (now (file .entry)) description ⌝ }
-    ensures { λ _. ⌜ now (presence .exit) ≡ marksOf (now (file .entry)) description ⌝ }
-{
-    let marks = description.presence;
-    // One call of fill_marked is compiled in place, and the description is not copied whole for it.
-    let Presence::All = marks else {
-        return fill_marked(file, description, marked_at(marks), values, presence);
-    };
-    fill_all(file, description, values, presence)
 }
 
 // Decodes a field that is judged, into its stretch of both runs, and answers its point count.

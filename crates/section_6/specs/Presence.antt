@@ -1,11 +1,12 @@
 -- RULES, "Section 6": which points of a field are present.
 use Prim.Native.Nat.{ℕ, zero, suc, _+_}
+use mathlib.Core.Path.{_≡_}
 use mathlib.Core.Bool.{Bool, _&&_, cond}
-use mathlib.Core.List.{List}
+use mathlib.Core.List.{List, []}
 use lib.Dec.{eqb, ltb}
 use lib.ListN.{take, drop}
 use Rattle.octets.specs.Places.{at, placeOf}
-use Rattle.section.specs.Sections.{octet, lengthAt}
+use Rattle.section.specs.Sections.{Lies, octet, lengthAt}
 use Rattle.bits.specs.Bits.{bitAt, octetsOf}
 use Rattle.tiling_sections.specs.declared.Bitmap.{Bitmap}
 use Rattle.tiling_sections.specs.declared.Bitmap.the-variants as Bitmap
@@ -74,3 +75,19 @@ presentAt file (Presence.Earlier p) points i = bitAt (bitmapIn file (p .0) point
 unfoldable pub presentBefore : List ℕ → declared.Presence → ℕ → ℕ → ℕ
 presentBefore file p points zero = 0
 presentBefore file p points (suc n) = presentBefore file p points n + presentAt file p points n
+
+-- The bitmap that tells which points are present: empty where all are, and then no section has it.
+abbrev pub bitmapInForce : List ℕ → declared.Presence → ℕ → List ℕ
+bitmapInForce file Presence.All points = []
+bitmapInForce file (Presence.Own p) points = bitmapIn file (p .0) points
+bitmapInForce file (Presence.Earlier p) points = bitmapIn file (p .0) points
+
+-- The section 6 at p lies in the file, and has the length of one with a bitmap for so many points.
+abbrev pub HasBitmap : List ℕ → ℕ → ℕ → Type 0
+HasBitmap file p points = Lies file p × (lengthAt file p ≡ bitmapLength points)
+
+-- So has the one that tells which points are present, where one does.
+abbrev pub BitmapLies : List ℕ → declared.Presence → ℕ → Type 0
+BitmapLies file Presence.All points = _≡_ {A = ℕ} 0 0
+BitmapLies file (Presence.Own p) points = HasBitmap file (p .0) points
+BitmapLies file (Presence.Earlier p) points = HasBitmap file (p .0) points

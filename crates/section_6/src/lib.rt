@@ -4,7 +4,7 @@ ghost use Prim.Native.Nat.{_*_, _^_, _≤_, _<_};
 ghost use lib.ListN.{length};
 ghost use Rattle.section.specs.Sections.{Lies, lengthAt};
 ghost use Rattle.tiling_sections.specs.Laid.{Stored};
-ghost use Rattle.section_6.specs.Presence.{bitmapLength, bitmapIn, onesBefore, isBitmap, withoutBitmap, presenceAt};
+ghost use Rattle.section_6.specs.Presence.{HasBitmap, BitmapLies, bitmapIn, bitmapInForce, onesBefore, isBitmap, withoutBitmap, presenceAt};
 use octets::BitPlace;
 use octets::FilePlace;
 use octets::OctetNumber;
@@ -24,14 +24,26 @@ pub enum Marked {
 }
 
 // The bitmap in the section 6 at `section`, as a part of the file.
-pub fn bitmap_in<'a>(file: &'a [u8], section: FilePlace, points: u32) -> &'a [u8]
-    requires { ⌜ (Lies (now file) (section .0)) × (lengthAt (now file) (section .0) ≡ bitmapLength points) ⌝ }
+fn bitmap_in<'a>(file: &'a [u8], section: FilePlace, points: u32) -> &'a [u8]
+    requires { ⌜ HasBitmap (now file) (section .0) points ⌝ }
     ensures { λ r. ⌜ now r ≡ bitmapIn (now (file .entry)) (section .0) points ⌝ }
 {
     let first = octets::place_of(section, OctetNumber(7));
     let from = first.0;
     let end = from + bits::octets_of(points as u64) as usize;
     &file[from..end]
+}
+
+// The bitmap that tells which points are present, as a part of the file: empty where all are.
+pub fn bitmap_in_force<'a>(file: &'a [u8], presence: Presence, points: u32) -> &'a [u8]
+    requires { ⌜ BitmapLies (now file) presence points ⌝ }
+    ensures { λ r. ⌜ now r ≡ bitmapInForce (now (file .entry)) presence points ⌝ }
+{
+    match presence {
+        Presence::All => &file[0..0],
+        Presence::Own(section) => bitmap_in(file, section, points),
+        Presence::Earlier(section) => bitmap_in(file, section, points),
+    }
 }
 
 // How many of the first 64 x `words` bits are set: a word at a time, for a bitmap is counted at every question about its field.

@@ -68,8 +68,8 @@ bits-read-four _ 𝓤 _ _ _ _ _ _ _ _ _ _ _ _ =
     one 𝓤 (λ p q.
     (λ i. record { first = alike (p .first) (q .first) i; second = alike (p .second) (q .second) i; third = alike (p .third) (q .third) i; fourth = alike (p .fourth) (q .fourth) i }, refl))
 
-pub bits-pairs-in : Determined bits.pairs_in.ended (λ _. bits.pairs_in.clauses)
-bits-pairs-in _ 𝓤 _ _ _ _ _ _ _ _ _ _ _ _ = one 𝓤 (λ p q. (alike p q, refl))
+pub bits-fours-in : Determined bits.fours_in.ended (λ _. bits.fours_in.clauses)
+bits-fours-in _ 𝓤 _ _ _ _ _ _ _ _ _ _ _ _ = one 𝓤 (λ p q. (alike p q, refl))
 
 pub bits-after : Determined bits.after.ended (λ _. bits.after.clauses)
 bits-after _ 𝓤 _ _ _ _ _ _ _ _ _ _ _ _ = one 𝓤 (λ p q. (λ i. record { 0 = alike p q i }, refl))
@@ -108,10 +108,6 @@ bits-reader-next-pair _ 𝓤 _ _ _ _ _ _ _ _ _ _ _ _ =
 pub bits-reader-take : Determined bits-reader.take.ended (λ _. bits-reader.take.clauses)
 bits-reader-take _ 𝓤 _ _ _ _ _ _ _ _ _ _ _ _ = one 𝓤 (λ p q. (λ i. record { number = alike (p .0) (q .0) i; next = record { 0 = alike (p .1) (q .1) i } }, refl))
 
-pub bits-reader-take-pair : Determined bits-reader.take_pair.ended (λ _. bits-reader.take_pair.clauses)
-bits-reader-take-pair _ 𝓤 _ _ _ _ _ _ _ _ _ _ _ _ =
-    one 𝓤 (λ p q. (λ i. record { first = alike (p .0) (q .0) i; second = alike (p .1) (q .1) i; next = record { 0 = alike (p .2) (q .2) i } }, refl))
-
 pub bits-reader-next-four : Determined bits-reader.next_four.ended (λ _. bits-reader.next_four.clauses)
 bits-reader-next-four _ 𝓤 _ _ _ _ _ _ _ _ _ _ _ _ =
     one 𝓤 (λ p q. (
@@ -122,8 +118,8 @@ bits-reader-next-four _ 𝓤 _ _ _ _ _ _ _ _ _ _ _ _ =
       refl,
     ))
 
-pub bits-reader-take-four : Determined bits-reader.take_four.ended (λ _. bits-reader.take_four.clauses)
-bits-reader-take-four _ 𝓤 _ _ _ _ _ _ _ _ _ _ _ _ =
+pub bits-reader-four-at : Determined bits-reader.four_at.ended (λ _. bits-reader.four_at.clauses)
+bits-reader-four-at _ 𝓤 _ _ _ _ _ _ _ _ _ _ _ _ =
     one 𝓤 (λ p q. (
       λ i. record {
         first = alike (p .first) (q .first) i;

@@ -75,8 +75,8 @@ pub section-5-representation-at : Determined section-5.representation_at.ended (
 section-5-representation-at _ 𝓤 _ _ _ _ _ _ _ _ _ _ _ _ = one 𝓤 (λ p q. (alike p q, refl))
 
 -- Section 6. Of a bitmap, handed back as a part of the file, it is the octets that are seen.
-pub section-6-bitmap-in : SeenDetermined section-6.bitmap_in.ended _ (λ _. now) (λ _. section-6.bitmap_in.clauses)
-section-6-bitmap-in _ 𝓤 _ _ _ _ _ _ _ _ _ _ _ _ = one 𝓤 (λ p q. (alike p q, refl))
+pub section-6-bitmap-in-force : SeenDetermined section-6.bitmap_in_force.ended _ (λ _. now) (λ _. section-6.bitmap_in_force.clauses)
+section-6-bitmap-in-force _ 𝓤 _ _ _ _ _ _ _ _ _ _ _ _ = one 𝓤 (λ p q. (alike p q, refl))
 
 pub section-6-ones-before : Determined section-6.ones_before.ended (λ _. section-6.ones_before.clauses)
 section-6-ones-before _ 𝓤 _ _ _ _ _ _ _ _ _ _ _ _ = one 𝓤 (λ p q. (alike p q, refl))

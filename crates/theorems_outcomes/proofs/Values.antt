@@ -9,7 +9,6 @@ use Rattle.values_simple.proofs as values-simple
 use Rattle.values_complex.proofs as values-complex
 use Rattle.values_points.proofs.Laws.{written-determined}
 use Rattle.values_points.proofs.Missing.{cleared-determined}
-use Rattle.values_points.proofs.Full.{until-determined}
 use Rattle.values_group.specs.declared.Worked as declared
 use Rattle.values_group.specs.declared.Worked.the-variants as Worked
 
@@ -18,20 +17,13 @@ pub values-points-clear-missing : Determined values-points.clear_missing.ended (
 values-points-clear-missing _ 𝓤 _ _ _ _ _ _ _ _ _ _ _ _ =
     one 𝓤 (λ p q. let same = cleared-determined p q in (same .0, λ i. (tt, (same .1 i .doubles, (same .1 i .marks, (tt, tt))))))
 
-pub values-points-write-next : Determined values-points.write_next.ended (λ _. values-points.write_next.clauses)
-values-points-write-next _ 𝓤 _ _ _ _ _ _ _ _ _ _ _ _ =
+pub values-points-write : Determined values-points.write.ended (λ _. values-points.write.clauses)
+values-points-write _ 𝓤 _ _ _ _ _ _ _ _ _ _ _ _ =
     one 𝓤 (λ p q. let same = written-determined p q in (same .0, λ i. (tt, (tt, (tt, (same .1 i .doubles, (same .1 i .marks, (tt, tt))))))))
 
-pub values-points-present-until : Determined values-points.present_until.ended (λ _. values-points.present_until.clauses)
-values-points-present-until _ 𝓤 _ _ _ _ _ _ _ _ _ _ _ _ = one 𝓤 (λ p q. (until-determined p q, refl))
-
-pub values-points-write-all : Determined values-points.write_all.ended (λ _. values-points.write_all.clauses)
-values-points-write-all _ 𝓤 _ _ _ _ _ _ _ _ _ _ _ _ =
-    one 𝓤 (λ p q. let same = written-determined p q in (refl, λ i. (tt, (tt, (same .1 i .doubles, (same .1 i .marks, (tt, tt)))))))
-
-pub values-points-write-marked : Determined values-points.write_marked.ended (λ _. values-points.write_marked.clauses)
-values-points-write-marked _ 𝓤 _ _ _ _ _ _ _ _ _ _ _ _ =
-    one 𝓤 (λ p q. let same = written-determined p q in (same .0, λ i. (tt, (tt, (tt, (same .1 i .doubles, (same .1 i .marks, (tt, tt))))))))
+-- Neither does the length of a block.
+pub values-points-block-length : Determined values-points.block_length.ended (λ _. values-points.block_length.clauses)
+values-points-block-length _ 𝓤 _ _ _ _ _ _ _ _ _ _ _ _ = one 𝓤 (λ p q. (alike p q, refl))
 
 -- Where integers are kept, the last two of them are told.
 kept-determined : {worked : declared.Worked} {x y before earlier : ℕ} → worked ≡ Worked.Kept x before → worked ≡ Worked.Kept y earlier → (x ≡ y) × (before ≡ earlier)
@@ -47,19 +39,16 @@ values-group-unpack _ 𝓤 _ _ _ _ _ _ _ _ _ _ _ _ =
     let kept = kept-determined (p .0) (q .0) in
     (λ i. record { x = kept .0 i; before = kept .1 i }, λ i. (tt, (tt, (tt, (alike (p .1) (q .1) i, (tt, tt)))))))
 
--- Both runs of a field in simple packing.
-pub values-simple-fill-all : Determined values-simple.fill_all.ended (λ _. values-simple.fill_all.clauses)
-values-simple-fill-all _ 𝓤 _ _ _ _ _ _ _ _ _ _ _ _ = one 𝓤 (λ p q. (refl, λ i. (tt, (tt, (tt, (alike (p .0) (q .0) i, (alike (p .1) (q .1) i, tt)))))))
+-- What a block holds of simple packing, and both runs of a field in it.
+pub values-simple-unpack : Determined values-simple.unpack.ended (λ _. values-simple.unpack.clauses)
+values-simple-unpack _ 𝓤 _ _ _ _ _ _ _ _ _ _ _ _ = one 𝓤 (λ p q. (refl, λ i. (tt, (tt, (tt, (alike p q i, tt))))))
 
-pub values-simple-fill-marked : Determined values-simple.fill_marked.ended (λ _. values-simple.fill_marked.clauses)
-values-simple-fill-marked _ 𝓤 _ _ _ _ _ _ _ _ _ _ _ _ = one 𝓤 (λ p q. (refl, λ i. (tt, (tt, (tt, (tt, (alike (p .0) (q .0) i, (alike (p .1) (q .1) i, tt))))))))
+pub values-simple-fill : Determined values-simple.fill.ended (λ _. values-simple.fill.clauses)
+values-simple-fill _ 𝓤 _ _ _ _ _ _ _ _ _ _ _ _ = one 𝓤 (λ p q. (refl, λ i. (tt, (tt, (tt, (tt, (tt, (alike (p .0) (q .0) i, (alike (p .1) (q .1) i, tt)))))))))
 
 -- Whether the integers of a field in complex packing are in their range, and both runs.
 pub values-complex-is-in-range : Determined values-complex.is_in_range.ended (λ _. values-complex.is_in_range.clauses)
 values-complex-is-in-range _ 𝓤 _ _ _ _ _ _ _ _ _ _ _ _ = one 𝓤 (λ p q. (alike p q, refl))
 
-pub values-complex-fill-all : Determined values-complex.fill_all.ended (λ _. values-complex.fill_all.clauses)
-values-complex-fill-all _ 𝓤 _ _ _ _ _ _ _ _ _ _ _ _ = one 𝓤 (λ p q. (refl, λ i. (tt, (tt, (tt, (alike (p .0) (q .0) i, (alike (p .1) (q .1) i, tt)))))))
-
-pub values-complex-fill-marked : Determined values-complex.fill_marked.ended (λ _. values-complex.fill_marked.clauses)
-values-complex-fill-marked _ 𝓤 _ _ _ _ _ _ _ _ _ _ _ _ = one 𝓤 (λ p q. (refl, λ i. (tt, (tt, (tt, (tt, (alike (p .0) (q .0) i, (alike (p .1) (q .1) i, tt))))))))
+pub values-complex-fill : Determined values-complex.fill.ended (λ _. values-complex.fill.clauses)
+values-complex-fill _ 𝓤 _ _ _ _ _ _ _ _ _ _ _ _ = one 𝓤 (λ p q. (refl, λ i. (tt, (tt, (tt, (tt, (alike (p .0) (q .0) i, (alike (p .1) (q .1) i, tt))))))))

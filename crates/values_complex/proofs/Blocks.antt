@@ -1,16 +1,11 @@
--- A block that goes around in the loops over a group: its first elements are lent, filled with the group's next integers, and written.
-use mathlib.Core.Path.{_≡_, sym, ap, _∙_}
-use mathlib.Core.Bool.{true, cond}
+-- The block that goes around in the loop over a group has the group's next integers.
+use mathlib.Core.Path.{_≡_, ap, _∙_}
+use mathlib.Core.Bool.{true}
 use mathlib.Core.List.{List}
-use Prim.Native.Nat.{ℕ, suc, _+_, _-_, _%_, _≤_, _<_}
-use native.Mathlib.Nat.{sub-zero}
+use Prim.Native.Nat.{ℕ, suc, _+_, _%_, _≤_, _<_}
 use native.Mathlib.Omega.{arith}
-use borrow.Author.Tests.{ltb-true, ltb-false}
-use borrow.Rule.Slice.PartMut.{postOf, putMid}
-use lib.Dec.{ltb}
-use lib.ListN.{length, take, getD}
-use lib.Seq.{length-take-le, take-at}
-use Rattle.octets.proofs.Cases.{apart, split}
+use lib.ListN.{getD}
+use Rattle.octets.proofs.Cases.{apart}
 use Rattle.laws_rows.specs.Rows.{row}
 use Rattle.laws_rows.proofs.Laws.{row-at}
 use Rattle.values_points.specs.Written.{integersIn}
@@ -20,21 +15,6 @@ use Rattle.values_group.specs.declared.Worked.the-variants as Worked
 use Rattle.values_group.specs.Group.{mostX, workedBy, isKept, lastOf, integerFrom, Limits, Ranged, behind}
 use Rattle.values_group.proofs.Steps.{kept-earlier}
 use Rattle.values_group.proofs.Left.{worked-fits, behind-kept, behind-integer}
-
--- The lesser of two numbers is at most either, and is not 0 where neither is.
-pub least-within : {r : ℕ} (a b : ℕ) → r ≡ cond (ltb a b) a b → 1 ≤ a → 1 ≤ b → (r ≤ a) × (r ≤ b) × (1 ≤ r)
-least-within a b same h k =
-    split (ltb a b)
-    (λ less. let is-a = rw less at same in (omega (arith, is-a), omega (arith, is-a, ltb-true a b less), omega (arith, is-a)))
-    (λ more. let is-b = rw more at same in (omega (arith, is-b, ltb-false a b more), omega (arith, is-b), omega (arith, is-b)))
-
--- The part that is lent has so many elements.
-pub part-length : {n : ℕ} (block : List ℕ) → n ≤ length block → length (take (n - 0) block) ≡ n
-part-length {n} block h = rw (sub-zero n) (length-take-le n block h)
-
--- When it is back, it is what the block begins with.
-pub part-back : {n : ℕ} (block part : List ℕ) → length part ≡ n → take (n - 0) (putMid 0 (n - 0) block part) ≡ part
-part-back {n} block part same = take-at part (postOf 0 (n - 0) block) (n - 0) (same ∙ sym (sub-zero n))
 
 -- An integer that is kept is in its range.
 kept-small : (w : declared.Worked) → Ranged w → isKept w ≡ true → lastOf w ≤ mostX

@@ -125,12 +125,15 @@ module _ (run : List ℕ) (g : Groups) where
 
     module _ (all : areInRange (integerIn run g) (valuesIn run g) ≡ true) where
       -- The first two integers are the first value and the second.
-      pub two-kept : workedIn 0 ≡ Worked.Kept (g .differencing .second) (g .differencing .first)
+      pub two-fit : (g .differencing .first ≤ mostX) × (g .differencing .second ≤ mostX)
       unfolding integer
-      two-kept =
+      two-fit =
           let one = in-range-one (integerIn run g) (valuesIn run g) {j = 0} all (omega (arith, sound .twoValues)) in
           let two = in-range-one (integerIn run g) (valuesIn run g) {j = 1} all (omega (arith, sound .twoValues)) in
-          first-kept (leb-true (g .differencing .first) mostX one) (leb-true (g .differencing .second) mostX two)
+          (leb-true (g .differencing .first) mostX one, leb-true (g .differencing .second) mostX two)
+
+      pub two-kept : workedIn 0 ≡ Worked.Kept (g .differencing .second) (g .differencing .first)
+      two-kept = first-kept (two-fit .0) (two-fit .1)
 
       -- The integers of group i, as they are written, are the field's.
       pub group-field : (i x y : ℕ) → i < g .grouping .groups → workedIn (before i - 2) ≡ Worked.Kept x y → (k : ℕ) → k < groupAt run g i .count → integerFrom run (groupAt run g i) x y k ≡ sizeIn run g (before i - 2 + 2 + k)

@@ -4,5 +4,3 @@ pub mod Joined
 pub mod Passed
 mod Turns
 mod Blocks
-mod All
-mod Marked

@@ -1,13 +1,10 @@
 // Complex packing with second differences (5.3): the groups of a field one after the other, judged in a first pass that writes nothing, and
 // written in a second one.
 ghost use mathlib.Core.Path.{_≡_};
-ghost use mathlib.Core.Bool.{cond};
-ghost use Prim.Native.Nat.{_+_, _≤_, _<_};
-ghost use lib.Dec.{ltb};
+ghost use Prim.Native.Nat.{_+_, _<_};
 ghost use lib.ListN.{length};
-ghost use Rattle.values_points.specs.Written.{everyPoint, onesOf, lent, left, Room, MarkedRoom, PointsLeft, Filled};
+ghost use Rattle.values_points.specs.Written.{marksIn, lent, left, Room, PointsLeft, Filled};
 ghost use Rattle.values_group.specs.Group.{Limits, GroupKept, GroupGoes};
-ghost use Rattle.section_6.specs.Presence.{onesBefore};
 ghost use Rattle.values_integers.specs.Worked.{raisedBy, loweredBy};
 ghost use Rattle.values_integers.specs.Integers.{areInRange};
 ghost use Rattle.values_complex.specs.Complex.{skipped, startOf, groupAt, valuesIn, integerIn, sizeIn, AllInRange, Sound, latestOf, GroupWritten};
@@ -136,52 +133,8 @@ pub fn is_in_range(section: &[u8], groups: Groups) -> bool
     true
 }
 
-// The lesser of two numbers.
-fn least(a: u64, b: u64) -> u64
-    ensures { λ r. ⌜ r ≡ cond (ltb a b) a b ⌝ }
-{
-    if a < b { a } else { b }
-}
-
-// Writes the group's integers to as many points, all of which are present: a block of at most 64 at a time.
+// Writes the group's integers to the next points that are present, and +0 to those missing before each: a block at a time.
 fn write_group(
-    section: &[u8],
-    group: Group,
-    packing: Packing,
-    block: &mut [u32],
-    values: &mut [f64],
-    presence: &mut [u8],
-    reached: Reached,
-) -> Reached
-    requires { ⌜ (Limits group (reached .x) (reached .before)) × (GroupKept (now section) group (latestOf reached) (group .count)) ⌝ }
-    requires { ⌜ (Room (now values) (now presence)) × (reached .point + group .count ≤ length (now values)) × (length (now block) ≡ 64) ⌝ }
-    ensures { λ r. ⌜ GroupGoes (now (section .entry)) group (latestOf reached) (group .count) (latestOf r) ⌝ }
-    ensures { λ r. ⌜ GroupWritten everyPoint packing (now (section .entry)) group reached r
-        (lent values presence) (left values presence) ⌝ }
-{
-    let mut latest = Latest {
-        x: reached.x,
-        before: reached.before,
-    };
-    let mut point = reached.point;
-    let mut done: u64 = 0;
-    while done < group.count {
-        let n = least(group.count - done, 64) as usize;
-        latest = values_group::unpack(section, group, done, &mut block[0..n], latest);
-        values_points::write_all(packing, &block[0..n], values, presence, point);
-        point += n;
-        done += n as u64;
-    }
-    Reached {
-        x: latest.x,
-        before: latest.before,
-        point,
-    }
-}
-
-// Writes the group's integers to the next points that a bitmap has, and +0 to those missing before each: a block of at most 56 at a time, whose points one
-// window of the bitmap tells of.
-fn put_group(
     section: &[u8],
     bitmap: &[u8],
     group: Group,
@@ -192,10 +145,10 @@ fn put_group(
     reached: Reached,
 ) -> Reached
     requires { ⌜ (Limits group (reached .x) (reached .before)) × (GroupKept (now section) group (latestOf reached) (group .count)) ⌝ }
-    requires { ⌜ (MarkedRoom (now bitmap) (now values) (now presence)) × (PointsLeft (now bitmap) (reached .point) (group .count) (length (now values))) ⌝ }
-    requires { ⌜ length (now block) ≡ 64 ⌝ }
+    requires { ⌜ (Room (now bitmap) (now values) (now presence)) × (PointsLeft (now bitmap) (reached .point) (group .count) (length (now values))) ⌝ }
+    requires { ⌜ length (now block) ≡ 56 ⌝ }
     ensures { λ r. ⌜ GroupGoes (now (section .entry)) group (latestOf reached) (group .count) (latestOf r) ⌝ }
-    ensures { λ r. ⌜ GroupWritten (onesOf (now (bitmap .entry))) packing (now (section .entry)) group reached r
+    ensures { λ r. ⌜ GroupWritten (marksIn (now (bitmap .entry))) packing (now (section .entry)) group reached r
         (lent values presence) (left values presence) ⌝ }
 {
     let mut latest = Latest {
@@ -205,9 +158,9 @@ fn put_group(
     let mut point = reached.point;
     let mut done: u64 = 0;
     while done < group.count {
-        let n = least(group.count - done, 56) as usize;
+        let n = values_points::block_length(group.count - done);
         latest = values_group::unpack(section, group, done, &mut block[0..n], latest);
-        point = values_points::write_marked(bitmap, packing, &block[0..n], values, presence, point);
+        point = values_points::write(bitmap, packing, &block[0..n], values, presence, point);
         done += n as u64;
     }
     Reached {
@@ -217,9 +170,10 @@ fn put_group(
     }
 }
 
-// Fills the runs for a field whose points are all present.
-pub fn fill_all(
+// Fills the runs for a field: the first two integers, and then group by group.
+pub fn fill(
     section: &[u8],
+    bitmap: &[u8],
     groups: Groups,
     packing: Packing,
     values: &mut [f64],
@@ -227,23 +181,20 @@ pub fn fill_all(
 )
     requires { ⌜ Sound (now section) groups ⌝ }
     requires { ⌜ AllInRange (now section) groups ⌝ }
-    requires { ⌜ Room (now values) (now presence) ⌝ }
-    requires { ⌜ valuesIn (now section) groups ≡ length (now values) ⌝ }
-    ensures { λ _. ⌜ Filled everyPoint packing (sizeIn (now (section .entry)) groups) (lent values presence) (left values presence) ⌝ }
+    requires { ⌜ Room (now bitmap) (now values) (now presence) ⌝ }
+    requires { ⌜ valuesIn (now section) groups ≡ marksIn (now bitmap) .rank (length (now values)) ⌝ }
+    ensures { λ _. ⌜ Filled (marksIn (now (bitmap .entry))) packing (sizeIn (now (section .entry)) groups) (lent values presence) (left values presence) ⌝ }
 {
     let layout = groups.layout;
     let grouping = groups.grouping;
     let differencing = groups.differencing;
-    values[0] = doubles::rebuild(packing, differencing.first);
-    presence[0] = 1;
-    values[1] = doubles::rebuild(packing, differencing.second);
-    presence[1] = 1;
-    let mut reached = Reached {
-        x: differencing.second as u64,
-        before: differencing.first as u64,
-        point: 2,
-    };
-    let mut block = [0u32; 64];
+    let mut block = [0u32; 56];
+    block[0] = differencing.first;
+    block[1] = differencing.second;
+    let point = values_points::write(bitmap, packing, &block[0..2], values, presence, 0);
+    let x = differencing.second as u64;
+    let before = differencing.first as u64;
+    let mut reached = Reached { x, before, point };
     let bit = octets::first_bit(layout.packed);
     let mut start = Start { values: 0, bit };
     let mut i: u32 = 0;
@@ -251,51 +202,6 @@ pub fn fill_all(
         let met = group_at(section, groups, i, start);
         let group = met.group;
         reached = write_group(
-            section,
-            group,
-            packing,
-            &mut block,
-            values,
-            presence,
-            reached,
-        );
-        start = met.next;
-        i += 1;
-    }
-}
-
-// Fills the runs for a field with a bitmap.
-pub fn fill_marked(
-    section: &[u8],
-    bitmap: &[u8],
-    groups: Groups,
-    packing: Packing,
-    values: &mut [f64],
-    presence: &mut [u8],
-)
-    requires { ⌜ Sound (now section) groups ⌝ }
-    requires { ⌜ AllInRange (now section) groups ⌝ }
-    requires { ⌜ MarkedRoom (now bitmap) (now values) (now presence) ⌝ }
-    requires { ⌜ valuesIn (now section) groups ≡ onesBefore (now bitmap) (length (now values)) ⌝ }
-    ensures { λ _. ⌜ Filled (onesOf (now (bitmap .entry))) packing (sizeIn (now (section .entry)) groups) (lent values presence) (left values presence) ⌝ }
-{
-    let layout = groups.layout;
-    let grouping = groups.grouping;
-    let differencing = groups.differencing;
-    let second = differencing.second;
-    let one = values_points::write_next(bitmap, packing, differencing.first, values, presence, 0);
-    let point = values_points::write_next(bitmap, packing, second, values, presence, one);
-    let x = differencing.second as u64;
-    let before = differencing.first as u64;
-    let mut reached = Reached { x, before, point };
-    let mut block = [0u32; 64];
-    let bit = octets::first_bit(layout.packed);
-    let mut start = Start { values: 0, bit };
-    let mut i: u32 = 0;
-    while i < grouping.groups {
-        let met = group_at(section, groups, i, start);
-        let group = met.group;
-        reached = put_group(
             section,
             bitmap,
             group,

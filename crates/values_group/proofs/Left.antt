@@ -1,21 +1,20 @@
 -- What is left of a group behind some of its numbers.
 use mathlib.Core.Path.{_≡_, refl, sym, ap, ap₂, _∙_, subst}
 use mathlib.Core.List.{List}
-use Prim.Native.Nat.{ℕ, zero, suc, _+_, _-_, _*_, _/_, _≤_, _<_}
+use Prim.Native.Nat.{ℕ, zero, suc, _+_, _-_, _*_, _≤_, _<_}
 use native.Mathlib.Nat.{add-zero, add-suc, add-mul, mul-le-mul}
 use native.Mathlib.Omega.{arith}
-use borrow.Author.Tests.{ltb-false, le-leb, lt-leb}
-use lib.Dec.{ltb, leb}
+use borrow.Author.Tests.{ltb-false}
+use lib.Dec.{ltb}
 use lib.ListN.{length}
 use Rattle.octets.proofs.Cases.{split}
 use Rattle.bits.specs.Bits.{bitsAt}
-use Rattle.bits.specs.Pairs.{Paired}
 use Rattle.laws_rows.specs.Rows.{row, filled}
 use Rattle.laws_rows.proofs.Laws.{filled-same, filled-further, filled-whole}
 use Rattle.values_group.specs.declared.Group as declared
 use Rattle.values_group.specs.declared.Worked as declaredWorked
 use Rattle.values_group.specs.declared.Worked.the-variants as Worked
-use Rattle.values_group.specs.Group.{mostX, judged, next, packedNumber, workedBy, lastOf, integerFrom, Limits, Ranged, windowed, behind}
+use Rattle.values_group.specs.Group.{mostX, judged, next, packedNumber, workedBy, lastOf, integerFrom, Limits, Ranged, behind}
 
 -- The bits of a group's numbers are few enough to be counted.
 pub few-bits : {count width : ℕ} → count ≤ 4294967296 → width ≤ 31 → count * width ≤ 133143986176
@@ -69,6 +68,10 @@ module _ (run : List ℕ) (g : declared.Group) where
     pub behind-kept : (j : ℕ) → workedBy run (behind g k) (Worked.Kept x before) j ≡ workedBy run g (Worked.Kept latest earlier) (k + j)
     behind-kept j = ap (λ (v : declaredWorked.Worked). workedBy run (behind g k) v j) (sym kept) ∙ behind-worked (Worked.Kept latest earlier) k j
 
+    -- Up to the last number, what is left gives what the group does.
+    pub behind-all : {n : ℕ} → k ≤ n → workedBy run (behind g k) (Worked.Kept x before) (n - k) ≡ workedBy run g (Worked.Kept latest earlier) n
+    behind-all {n} h = let all : k + (n - k) ≡ n = omega arith in behind-kept (n - k) ∙ ap (workedBy run g (Worked.Kept latest earlier)) all
+
     pub behind-integer : (j : ℕ) → integerFrom run (behind g k) x before j ≡ integerFrom run g latest earlier (k + j)
     behind-integer j = ap lastOf (behind-kept (suc j) ∙ ap (workedBy run g (Worked.Kept latest earlier)) (add-suc k j))
 
@@ -87,23 +90,11 @@ module _ (run : List ℕ) (g : declared.Group) where
         }
 
     -- A block that has the first k integers, and behind them those of what is left, has them all.
-    pub block-joined : (n : ℕ) (lent middle left : List ℕ) → k ≤ n → n ≡ length lent → middle ≡ filled (integerFrom run g latest earlier) 0 k lent →
+    pub block-joined : {n : ℕ} (lent : List ℕ) {middle left : List ℕ} → k ≤ n → n ≡ length lent → middle ≡ filled (integerFrom run g latest earlier) 0 k lent →
         left ≡ filled (λ i. integerFrom run (behind g k) x before (i - k)) k (n - k) middle → left ≡ row (integerFrom run g latest earlier) n
-    block-joined n lent middle left h whole first rest =
+    block-joined {n} lent {middle} {left} h whole first rest =
         let f : ℕ → ℕ = integerFrom run g latest earlier in
         let same : (i : ℕ) → k ≤ i → i < k + (n - k) → integerFrom run (behind g k) x before (i - k) ≡ f i =
         λ i l m. let place : k + (i - k) ≡ i = omega arith in behind-integer (i - k) ∙ ap f place in
-        filled-further f lent middle left h first (rest ∙ filled-same (λ i. integerFrom run (behind g k) x before (i - k)) f k (n - k) middle same) ∙ filled-whole f n lent whole
-
--- How many numbers are read in windows, by the test on their width; they are among those asked for.
-pub windowed-narrow : {width : ℕ} (pairs : ℕ) → width ≤ 14 → 4 * (pairs / 2) ≡ windowed width pairs
-windowed-narrow {width} pairs h = rw (le-leb width 14 h) (omega arith)
-
-pub windowed-wide : {width : ℕ} (pairs : ℕ) → 14 < width → 2 * pairs ≡ windowed width pairs
-windowed-wide {width} pairs h = rw (lt-leb width 14 h) (omega arith)
-
-pub windowed-few : (width : ℕ) {octets from count pairs : ℕ} → Paired octets from width count pairs → windowed width pairs ≤ count
-windowed-few width {octets} {from} {count} {pairs} paired =
-    split (leb width 14)
-    (λ narrow. rw narrow (omega (arith, paired .few)))
-    (λ wide. rw wide (omega (arith, paired .few)))
+        filled-further f lent middle left h first (rest ∙ filled-same (λ i. integerFrom run (behind g k) x before (i - k)) f k (n - k) middle same)
+        ∙ filled-whole f n lent whole

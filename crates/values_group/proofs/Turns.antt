@@ -1,186 +1,176 @@
--- One turn of a loop over a group's packed numbers: where the next of them lie, and what they give. A loop holds what it adds to each number, but not
--- the group that this is made of, so that everything is said of all groups that add as much.
+-- One turn of a loop over a group's packed numbers: where the next of them lie, and what they give.
 use mathlib.Core.Path.{_≡_, refl, sym, ap, ap₂, _∙_}
-use mathlib.Core.Bool.{true, cond}
+use mathlib.Core.Bool.{true}
 use mathlib.Core.List.{List}
-use Prim.Native.Nat.{ℕ, _+_, _-_, _*_, _/_, _%_, _^_, _≤_, _<_}
-use native.Mathlib.Nat.{add-mul, one-mul, sub-zero, mul-le-mul-left, mul-le-mul-right}
+use Prim.Native.Nat.{ℕ, suc, _+_, _*_, _/_, _%_, _^_, _≤_, _<_}
+use native.Mathlib.Nat.{add-mul, one-mul, mul-le-mul-right}
 use native.Mathlib.Numerals.{add-one}
 use native.Mathlib.Omega.{arith}
-use borrow.Author.Tests.{ltb-true, ltb-false, lt-ltb, le-ltb}
+use borrow.Author.Tests.{ltb-false}
 use lib.Dec.{ltb}
-use lib.ListN.{set}
+use lib.ListN.{length, set}
 use Rattle.octets.proofs.Cases.{apart, split}
 use Rattle.bits.specs.Bits.{bitsAt}
+use Rattle.bits.specs.Fours.{Foured}
+use Rattle.bits_reader.specs.Reading.{FourTaken}
+use Rattle.bits_reader.specs.declared.TakenFour.{TakenFour}
 use Rattle.laws_rows.specs.Rows.{filled}
-use Rattle.laws_rows.proofs.Laws.{filled-next, filled-same}
+use Rattle.laws_rows.proofs.Laws.{filled-length, filled-more, filled-same}
 use Rattle.values_group.specs.declared.Group as declared
 use Rattle.values_group.specs.declared.Worked as declaredWorked
 use Rattle.values_group.specs.declared.Worked.the-variants as Worked
-use Rattle.values_group.specs.Group.{mostX, judged, next, workedBy, isKept, lastOf, integerFrom, Gains, Wraps, JudgedNext, JudgedTwo}
-use Rattle.values_group.proofs.Steps.{judged-low, worked-more, out-stays, kept-earlier}
+use Rattle.values_group.specs.Group.{mostX, workedBy, isKept, lastOf, integerFrom, Limits, Gains, wrapped, tested}
+use Rattle.values_group.proofs.Steps.{out-later}
+use Rattle.values_group.proofs.Wrapped.{Course, courseOf, testedBy, integerBy, worked-tested}
 
--- The group that the locals of a loop hold.
-abbrev pub groupOf : ℕ → ℕ → ℕ → ℕ → ℕ → declared.Group
-groupOf from width base lowered count = record { from = record { 0 = from }; width = width; base = base; lowered = lowered; count = count }
+-- Behind k numbers this is kept, and the next number lies at bit `at`.
+pub record Reached (s : Course) (k at : ℕ) (w : declaredWorked.Worked) : Type 0 where
+  pub place : at ≡ s .from + k * s .width
+  pub kept : testedBy s k ≡ w
 
--- An integer in its range has 31 bits.
-pub own-remainder : {x : ℕ} → x ≤ mostX → x % 2147483648 ≡ x
+-- At the start nothing is read.
+pub none-reached : (s : Course) → Reached s 0 (s .from) (Worked.Kept (s .latest) (s .earlier))
+unfolding testedBy
+none-reached s = record { place = omega arith; kept = refl }
+
+-- The block has the integers that were worked out, from element `start` on: element j has that of number `numbered j`.
+pub record Held (s : Course) (numbered : ℕ → ℕ) (start k at x before : ℕ) (lent block : List ℕ) : Type 0 where
+  pub reached : Reached s k at (Worked.Kept x before)
+  pub elements : block ≡ filled (λ j. integerBy s (numbered j)) start k lent
+
+pub none-held : (s : Course) (numbered : ℕ → ℕ) (start : ℕ) (lent : List ℕ) → Held s numbered start 0 (s .from) (s .latest) (s .earlier) lent lent
+unfolding filled
+none-held s numbered start lent = record { reached = none-reached s; elements = refl }
+
+-- An integer in its range has 31 bits, and one that is kept is in its range.
+own-remainder : {x : ℕ} → x ≤ mostX → x % 2147483648 ≡ x
 own-remainder h = omega arith
 
--- The packed numbers lie one behind the other.
-pub place-more : (from k more width at : ℕ) → at ≡ from + k * width → at + more * width ≡ from + (k + more) * width
-place-more from k more width at e = omega (arith, add-mul k more width)
+tested-tells : (packed gain x before : ℕ) → isKept (tested packed gain (Worked.Kept x before)) ≡ true →
+    (wrapped packed gain x before ≤ mostX) × (tested packed gain (Worked.Kept x before) ≡ Worked.Kept (wrapped packed gain x before) x)
+tested-tells packed gain x before e =
+    split (ltb mostX (wrapped packed gain x before)) (λ out. apart (cc (rw out at e)))
+    (λ inside. (ltb-false mostX (wrapped packed gain x before) inside, rw inside refl))
 
-pub place-next : (from k width at : ℕ) → at ≡ from + k * width → at + width ≡ from + (k + 1) * width
-place-next from k width at e = omega (arith, place-more from k 1 width at e, one-mul width)
+-- Of four numbers the last two stand behind the second.
+module _ {run : List ℕ} {at width : ℕ} {taken : TakenFour} (four : FourTaken run at width taken) where
+  third : taken .third ≡ bitsAt run (at + width + width) width
+  third = let place : at + 2 * width ≡ at + width + width = omega arith in four .third ∙ ap (λ (i : ℕ). bitsAt run i width) place
 
--- The last of four stands behind the third.
-pub place-two : (run : List ℕ) (at width : ℕ) {number : ℕ} → number ≡ bitsAt run (at + 3 * width) width → number ≡ bitsAt run (at + 2 * width + width) width
-place-two run at width read =
-    let same : at + 3 * width ≡ at + 2 * width + width = omega arith in
-    read ∙ ap (λ (i : ℕ). bitsAt run i width) same
+  fourth : taken .fourth ≡ bitsAt run (at + width + width + width) width
+  fourth = let place : at + 3 * width ≡ at + width + width + width = omega arith in four .fourth ∙ ap (λ (i : ℕ). bitsAt run i width) place
 
--- They lie within the numbers that the machine counts.
-pub room-more : (from k more width most : ℕ) {at : ℕ} → at ≤ from + k * most → width ≤ most → at + more * width ≤ from + (k + more) * most
-room-more from k more width most h few = omega (arith, add-mul k more most, mul-le-mul-left more few)
+module _ {s : Course} where
+  -- The same, said in other words.
+  pub reached-as : {k j at there : ℕ} {w v : declaredWorked.Worked} → Reached s k at w → k ≡ j → there ≡ at → w ≡ v → Reached s j there v
+  reached-as reached counted place same = record {
+    place = place ∙ reached .place ∙ ap (λ (n : ℕ). s .from + n * s .width) counted;
+    kept = ap (testedBy s) (sym counted) ∙ reached .kept ∙ same;
+  }
 
--- Fewer numbers take no more bits.
-pub fewer-bits : {octets few : ℕ} (from width all : ℕ) → few ≤ all → (from + all * width) / 8 + 8 ≤ octets → (from + few * width) / 8 + 8 ≤ octets
-fewer-bits from width all h inside = omega (arith, mul-le-mul-right width h)
+  pub held-as : {numbered : ℕ → ℕ} {start k j at there x before : ℕ} {lent block : List ℕ} →
+      Held s numbered start k at x before lent block → k ≡ j → there ≡ at → Held s numbered start j there x before lent block
+  held-as {numbered} {start} {lent = lent} held counted place = record {
+    reached = reached-as (held .reached) counted place refl;
+    elements = held .elements ∙ ap (λ (n : ℕ). filled (λ j. integerBy s (numbered j)) start n lent) counted;
+  }
 
--- A number that was worked out where 2 ^ 64 counts as 0, judged by one test.
-abbrev pub taken : ℕ → ℕ → declaredWorked.Worked
-taken r x = cond (ltb mostX r) Worked.Out (Worked.Kept r x)
+  -- The block keeps its length.
+  pub held-length : {numbered : ℕ → ℕ} {start k at x before : ℕ} {lent block : List ℕ} →
+      Held s numbered start k at x before lent block → length block ≡ length lent
+  held-length {numbered} {start} {k} {lent = lent} held = ap length (held .elements) ∙ filled-length (λ j. integerBy s (numbered j)) start k lent
 
--- What the test answers.
-pub taken-out : {r : ℕ} (x : ℕ) → mostX < r → taken r x ≡ Worked.Out
-taken-out {r} x h = rw (lt-ltb mostX r h) refl
+  -- One number more.
+  pub one-reached : {k at packed : ℕ} {w : declaredWorked.Worked} → Reached s k at w → packed ≡ bitsAt (s .run) at (s .width) →
+      Reached s (k + 1) (at + s .width) (tested packed (s .gain) w)
+  unfolding testedBy
+  one-reached {k} reached read =
+      let there = read ∙ ap (λ (i : ℕ). bitsAt (s .run) i (s .width)) (reached .place) in
+      record {
+        place = omega (arith, reached .place, add-mul k 1 (s .width), one-mul (s .width));
+        kept = ap (testedBy s) (add-one k) ∙ ap₂ (λ (n : ℕ) (v : declaredWorked.Worked). tested n (s .gain) v) (sym there) (reached .kept);
+      }
 
-pub taken-in : {r : ℕ} (x : ℕ) → r ≤ mostX → taken r x ≡ Worked.Kept r x
-taken-in {r} x h = rw (le-ltb mostX r h) refl
+  -- One element more, of an integer that is known to be kept.
+  pub one-held : {numbered : ℕ → ℕ} {start k at x before : ℕ} {lent block : List ℕ} (i : ℕ) {packed r element : ℕ} →
+      Held s numbered start k at x before lent block → i ≡ start + k → numbered i ≡ k → packed ≡ bitsAt (s .run) at (s .width) →
+      r ≡ wrapped packed (s .gain) x before → isKept (testedBy s (k + 1)) ≡ true → element ≡ r % 2147483648 →
+      Held s numbered start (k + 1) (at + s .width) r x lent (set block i element)
+  one-held {numbered} {start} {k} {at} {x} {before} {lent} i {packed} {r} held place counted read worked kept same =
+      let next = one-reached (held .reached) read in
+      let told = tested-tells packed (s .gain) x before (ap isKept (sym (next .kept)) ∙ kept) in
+      let reached = reached-as next refl refl (told .1 ∙ ap (λ (n : ℕ). Worked.Kept n x) (sym worked)) in
+      let f : ℕ → ℕ = λ j. integerBy s (numbered j) in
+      let integer : f i ≡ r = ap (integerBy s) counted ∙ ap (λ (n : ℕ). lastOf (testedBy s n)) (sym (add-one k)) ∙ ap lastOf (reached .kept) in
+      record {
+        reached = reached;
+        elements = ap₂ (λ (b : List ℕ) (e : ℕ). set b i e) (held .elements) (same ∙ own-remainder (rw worked (told .0)) ∙ sym integer)
+            ∙ ap (λ (j : ℕ). set (filled f start k lent) j (f j)) place
+            ∙ sym (filled-more f start k lent);
+      }
 
-judged-taken : (x up down : ℕ) → down ≤ up → judged x up down ≡ taken (up - down) x
-judged-taken x up down low = rw (le-ltb up down low) refl
+  module _ {at : ℕ} {taken : TakenFour} (four : FourTaken (s .run) at (s .width) taken) where
+    -- Four numbers more, of which the first two give `judged`, and the others `all` behind them.
+    pub four-reached : {k : ℕ} {w judged two all : declaredWorked.Worked} → Reached s k at w →
+        judged ≡ tested (taken .second) (s .gain) (tested (taken .first) (s .gain) w) → judged ≡ two →
+        all ≡ tested (taken .fourth) (s .gain) (tested (taken .third) (s .gain) two) → Reached s (k + 4) (taken .next .0) all
+    four-reached reached first same second =
+        let behind : declaredWorked.Worked → declaredWorked.Worked = λ v. tested (taken .fourth) (s .gain) (tested (taken .third) (s .gain) v) in
+        reached-as (one-reached (one-reached (one-reached (one-reached reached (four .first)) (four .second)) (third four)) (fourth four))
+        (omega arith) (omega (arith, four .next)) (ap behind (sym first ∙ same) ∙ sym second)
 
--- Three sums in which 2 ^ 64 counts as 0 are one.
-pub three-sums : (packed gain x before raised rise r : ℕ) → raised ≡ (packed + gain) % 2 ^ 64 → (rise + before) % 2 ^ 64 ≡ raised → r ≡ (rise + 2 * x) % 2 ^ 64 →
-    (r + before) % 2 ^ 64 ≡ (packed + gain + 2 * x) % 2 ^ 64
-three-sums packed gain x before raised rise r first second third = omega arith
+    -- Four elements more, from the start of the block on.
+    pub four-held : {x before : ℕ} {lent block : List ℕ} (i : ℕ) {one two three last e1 e2 e3 e4 : ℕ} → Held s (λ j. j) 0 i at x before lent block →
+        ((k : ℕ) → k ≤ i + 4 → isKept (testedBy s k) ≡ true) →
+        one ≡ wrapped (taken .first) (s .gain) x before → two ≡ wrapped (taken .second) (s .gain) one x →
+        three ≡ wrapped (taken .third) (s .gain) two one → last ≡ wrapped (taken .fourth) (s .gain) three two →
+        e1 ≡ one % 2147483648 → e2 ≡ two % 2147483648 → e3 ≡ three % 2147483648 → e4 ≡ last % 2147483648 →
+        Held s (λ j. j) 0 (i + 4) (taken .next .0) last three lent (set (set (set (set block i e1) (i + 1) e2) (i + 2) e3) (i + 3) e4)
+    four-held i held kept w1 w2 w3 w4 s1 s2 s3 s4 =
+        let h1 = one-held i held (omega arith) refl (four .first) w1 (kept (i + 1) (omega arith)) s1 in
+        let h2 = one-held (i + 1) h1 (omega arith) refl (four .second) w2 (kept (i + 1 + 1) (omega arith)) s2 in
+        let h3 = one-held (i + 2) h2 (omega arith) (omega arith) (third four) w3 (kept (i + 1 + 1 + 1) (omega arith)) s3 in
+        let h4 = one-held (i + 3) h3 (omega arith) (omega arith) (fourth four) w4 (kept (i + 1 + 1 + 1 + 1) (omega arith)) s4 in
+        held-as h4 (omega arith) (omega (arith, four .next))
 
--- It makes up the difference between the two sums of the recurrence.
-wraps-sum : (r before sum gain lowered base : ℕ) → (r + before) % 2 ^ 64 ≡ (gain + sum) % 2 ^ 64 → (gain + lowered) % 2 ^ 64 ≡ base → base + sum < 2 ^ 64 →
-    (r + (before + lowered)) % 2 ^ 64 ≡ base + sum
-wraps-sum r before sum gain lowered base e g h = omega arith
-
-wraps-difference : (r up down : ℕ) → (r + down) % 2 ^ 64 ≡ up → r < 2 ^ 64 → down ≤ up → up - down ≡ r
-wraps-difference r up down e fits low = omega arith
-
-wraps-huge : (r up down : ℕ) → (r + down) % 2 ^ 64 ≡ up → r < 2 ^ 64 → down ≤ 8589934592 → up < down → mostX < r
-wraps-huge r up down e fits few low = omega arith
-
--- It is the next integer where that is not below 0, and else far too large: one test judges it.
-pub wrapped-next : {packed gain x before r : ℕ} (base lowered : ℕ) → Wraps packed gain x before r → Gains gain base lowered →
-    next (packed + base) lowered (Worked.Kept x before) ≡ taken r x
-wrapped-next {packed} {gain} {x} {before} {r} base lowered w g =
-    let up = packed + base + 2 * x in
-    let down = before + lowered in
-    let order : packed + gain + 2 * x ≡ gain + (packed + 2 * x) = omega arith in
-    let small : base + (packed + 2 * x) < 2 ^ 64 = omega (arith, w .ofPacked, w .ofLast, g .0) in
-    let same : base + (packed + 2 * x) ≡ up = omega arith in
-    let sum : (r + down) % 2 ^ 64 ≡ up = wraps-sum r before (packed + 2 * x) gain lowered base (w .sum ∙ ap (λ (n : ℕ). n % 2 ^ 64) order) (g .2) small ∙ same in
-    split (ltb up down)
-    (λ low.
-    let huge = wraps-huge r up down sum (w .ofNumber) (omega (arith, w .ofBefore, g .1)) (ltb-true up down low) in
-    judged-low x up down (ltb-true up down low) ∙ sym (taken-out x huge))
-    (λ low.
-    judged-taken x up down (ltb-false up down low) ∙ ap (λ (d : ℕ). taken d x) (wraps-difference r up down sum (w .ofNumber) (ltb-false up down low)))
-
--- What was kept was in its range.
-taken-kept : (r x : ℕ) → isKept (taken r x) ≡ true → (r ≤ mostX) × (taken r x ≡ Worked.Kept r x)
-taken-kept r x e =
-    split (ltb mostX r) (λ out. apart (cc (rw out at e)))
-    (λ inside. let small = ltb-false mostX r inside in (small, taken-in x small))
-
-module _ (run : List ℕ) (from width gain latest earlier : ℕ) where
-  -- Behind k integers of any such group the last two are x and the one before it.
-  abbrev pub Goes : (k x before : ℕ) → Type 0
-  Goes k x before = (base lowered count : ℕ) → Gains gain base lowered → workedBy run (groupOf from width base lowered count) (Worked.Kept latest earlier) k ≡ Worked.Kept x before
-
-  -- So does what is kept behind k integers, whatever it is.
-  abbrev pub Gives : ℕ → declaredWorked.Worked → Type 0
-  Gives k r = (base lowered count : ℕ) → Gains gain base lowered → workedBy run (groupOf from width base lowered count) (Worked.Kept latest earlier) k ≡ r
-
-  pub goes-none : Goes 0 latest earlier
-  unfolding workedBy
-  goes-none base lowered count g = refl
+module _ (run : List ℕ) (g : declared.Group) (gain : ℕ) {latest earlier : ℕ}
+    (sizes : Limits g latest earlier) (gains : Gains gain (g .base) (g .lowered)) where
+  -- What is kept behind the last number is what the group keeps.
+  pub reached-worked : {k at : ℕ} {w : declaredWorked.Worked} → Reached (courseOf run g gain latest earlier) k at w → {all : ℕ} → k ≡ all →
+      w ≡ workedBy run g (Worked.Kept latest earlier) all
+  reached-worked {k} reached same =
+      sym (reached .kept) ∙ sym (worked-tested run g gain sizes gains k) ∙ ap (workedBy run g (Worked.Kept latest earlier)) same
 
   -- Behind an integer out of its range nothing is kept.
-  pub gives-out : (k all : ℕ) → Gives k Worked.Out → k ≤ all → (base lowered count : ℕ) → Gains gain base lowered →
-      Worked.Out ≡ workedBy run (groupOf from width base lowered count) (Worked.Kept latest earlier) all
-  gives-out k all gives h base lowered count g =
-      let whole : k + (all - k) ≡ all = omega arith in
-      sym (out-stays run (groupOf from width base lowered count) (Worked.Kept latest earlier) (all - k) k (gives base lowered count g))
-      ∙ ap (workedBy run (groupOf from width base lowered count) (Worked.Kept latest earlier)) whole
+  pub reached-out : {k at : ℕ} {w : declaredWorked.Worked} → Reached (courseOf run g gain latest earlier) k at w → w ≡ Worked.Out →
+      {all : ℕ} → k ≤ all → Worked.Out ≡ workedBy run g (Worked.Kept latest earlier) all
+  reached-out reached out {all} h = out-later run g (Worked.Kept latest earlier) all h (sym (reached-worked reached refl) ∙ out)
 
-  module _ (k x before at : ℕ) (goes : Goes k x before) (place : at ≡ from + k * width) where
-    -- The integer behind them, by the number that stands there.
-    behind-them : {packed : ℕ} → packed ≡ bitsAt run at width → (base lowered count : ℕ) → Gains gain base lowered →
-        workedBy run (groupOf from width base lowered count) (Worked.Kept latest earlier) (k + 1) ≡ next (packed + base) lowered (Worked.Kept x before)
-    behind-them read base lowered count g =
-        worked-more run (groupOf from width base lowered count) (Worked.Kept latest earlier) k
-        ∙ ap₂ (λ (n : ℕ) (w : declaredWorked.Worked). next (n + base) lowered w) (sym (read ∙ ap (λ (i : ℕ). bitsAt run i width) place)) (goes base lowered count g)
+  -- The block has the group's integers.
+  pub held-integers : {numbered : ℕ → ℕ} {start k at x before : ℕ} {lent block : List ℕ} →
+      Held (courseOf run g gain latest earlier) numbered start k at x before lent block → {all : ℕ} → k ≡ all →
+      block ≡ filled (λ j. integerFrom run g latest earlier (numbered j)) start all lent
+  held-integers {numbered} {start} {lent = lent} held {all} same =
+      let f : ℕ → ℕ = λ j. integerBy (courseOf run g gain latest earlier) (numbered j) in
+      held .elements
+      ∙ ap (λ (n : ℕ). filled f start n lent) same
+      ∙ filled-same f (λ j. integerFrom run g latest earlier (numbered j)) start all lent
+      (λ j _ _. sym (ap lastOf (worked-tested run g gain sizes gains (suc (numbered j)))))
 
-    pub gives-next : {packed : ℕ} {r : declaredWorked.Worked} → packed ≡ bitsAt run at width → JudgedNext packed gain x before r → Gives (k + 1) r
-    gives-next read told base lowered count g = behind-them read base lowered count g ∙ sym (told base lowered g)
+-- The next number, or the next four, lie in the section, and within the numbers that the machine counts.
+module _ {run : List ℕ} {g : declared.Group} {x before gain latest earlier k at : ℕ} {w : declaredWorked.Worked}
+    (sizes : Limits g x before) (reached : Reached (courseOf run g gain latest earlier) k at w) where
+  pub one-there : k < g .count → (at + g .width < 2 ^ 64) × (g .width ≤ 32)
+  one-there more =
+      let few : k + 1 ≤ g .count = omega (arith, more) in
+      let inside = mul-le-mul-right (g .width) few in
+      (omega (arith, reached .place, sizes .ofEnd, add-mul k 1 (g .width), one-mul (g .width), inside), omega (arith, sizes .ofWidth))
 
-    -- The two integers behind them.
-    pub gives-two : {first second : ℕ} {r : declaredWorked.Worked} → first ≡ bitsAt run at width → second ≡ bitsAt run (at + width) width →
-        JudgedTwo first second gain x before r → Gives (k + 2) r
-    gives-two read read2 told base lowered count g =
-        let later : k + 2 ≡ k + 1 + 1 = omega arith in
-        let there = place-next from k width at place in
-        ap (workedBy run (groupOf from width base lowered count) (Worked.Kept latest earlier)) later
-        ∙ worked-more run (groupOf from width base lowered count) (Worked.Kept latest earlier) (k + 1)
-        ∙ ap₂ (λ (n : ℕ) (w : declaredWorked.Worked). next (n + base) lowered w) (sym (read2 ∙ ap (λ (i : ℕ). bitsAt run i width) there)) (behind-them read base lowered count g)
-        ∙ sym (told base lowered g)
-
-    -- The integer behind them where one behind it is kept: it is in its range, and needs no test.
-    pub goes-next : {packed r : ℕ} → packed ≡ bitsAt run at width → Wraps packed gain x before r →
-        (base lowered count all : ℕ) → Gains gain base lowered → k < all → isKept (workedBy run (groupOf from width base lowered count) (Worked.Kept latest earlier) all) ≡ true →
-        (r ≤ mostX) × Goes (k + 1) r x
-    goes-next {packed} {r} read wraps base lowered count all g h kept =
-        let here : isKept (taken r x) ≡ true =
-        ap isKept (sym (behind-them read base lowered count g ∙ wrapped-next base lowered wraps g))
-        ∙ kept-earlier run (groupOf from width base lowered count) (Worked.Kept latest earlier) all (k + 1) (omega arith) kept in
-        let inside = taken-kept r x here in
-        (inside .0, λ b l n e. behind-them read b l n e ∙ wrapped-next b l wraps e ∙ inside .1)
-
-  -- The block has the integers of any such group, from element `start` up to i; those of the group from its first on.
-  abbrev pub Holds : (start i : ℕ) (before after : List ℕ) → Type 0
-  Holds start i before after =
-      (base lowered count : ℕ) → Gains gain base lowered → after ≡ filled (λ j. integerFrom run (groupOf from width base lowered count) latest earlier (j - start)) start (i - start) before
-
-  pub holds-none : (start : ℕ) (block : List ℕ) → Holds start start block block
-  unfolding filled
-  holds-none start block base lowered count g =
-      let none : start - start ≡ 0 = omega arith in
-      sym (ap (λ (n : ℕ). filled (λ j. integerFrom run (groupOf from width base lowered count) latest earlier (j - start)) start n block) none)
-
-  -- One integer more.
-  pub holds-more : (start i k r x element : ℕ) (before after : List ℕ) → start ≤ i → k ≡ i - start → Holds start i before after → r ≤ mostX → Goes (k + 1) r x → element ≡ r % 2147483648 →
-      Holds start (i + 1) before (set after i element)
-  unfolding workedBy
-  holds-more start i k r x element before after h counted so-far small goes same base lowered count g =
-      let G = groupOf from width base lowered count in
-      let here : r ≡ integerFrom run G latest earlier k = sym (ap lastOf (sym (ap (workedBy run G (Worked.Kept latest earlier)) (add-one k)) ∙ goes base lowered count g)) in
-      filled-next (λ j. integerFrom run G latest earlier (j - start)) start i before after h (so-far base lowered count g) (same ∙ own-remainder small ∙ here ∙ ap (integerFrom run G latest earlier) counted)
-
-  -- A block that is filled from its start has them by their numbers.
-  pub holds-first : (i : ℕ) (before after : List ℕ) → Holds 0 i before after → (base lowered count : ℕ) → Gains gain base lowered →
-      after ≡ filled (integerFrom run (groupOf from width base lowered count) latest earlier) 0 i before
-  holds-first i before after holds base lowered count g =
-      let f : ℕ → ℕ = integerFrom run (groupOf from width base lowered count) latest earlier in
-      holds base lowered count g
-      ∙ ap (λ (n : ℕ). filled (λ j. f (j - 0)) 0 n before) (sub-zero i)
-      ∙ filled-same (λ j. f (j - 0)) f 0 i before (λ j l m. ap f (sub-zero j))
+  pub four-there : {octets count fours : ℕ} → Foured octets (g .from .0) (g .width) count fours → count ≤ g .count → k + 4 ≤ 4 * fours →
+      ((at + 2 * g .width) / 8 + 8 ≤ octets) × (g .width ≤ 28) × (at + 4 * g .width < 2 ^ 64)
+  four-there {fours = fours} foured few more =
+      let some : 1 ≤ fours = omega (arith, more) in
+      let all : 4 * fours ≤ g .count = omega (arith, foured .few, few) in
+      let inside = mul-le-mul-right (g .width) more in
+      let here : at + 4 * g .width ≤ g .from .0 + 4 * fours * g .width = omega (arith, reached .place, add-mul k 4 (g .width), inside) in
+      (omega (arith, here, foured .inside some), foured .narrow some, omega (arith, here, sizes .ofEnd, mul-le-mul-right (g .width) all))

@@ -1,9 +1,9 @@
 -- RULES, "Section 7": how the code works out the integers X of one group: in numbers without a sign, and only while each is in its range.
-use Prim.Native.Nat.{ℕ, zero, suc, _+_, _-_, _*_, _/_, _%_, _^_, _≤_, _<_}
+use Prim.Native.Nat.{ℕ, zero, suc, _+_, _-_, _*_, _%_, _^_, _≤_}
 use mathlib.Core.Path.{_≡_}
 use mathlib.Core.Bool.{Bool, true, false, cond}
 use mathlib.Core.List.{List}
-use lib.Dec.{ltb, leb}
+use lib.Dec.{ltb}
 use Rattle.bits.specs.Bits.{bitsAt}
 use Rattle.values_group.specs.declared.Group as declared
 use Rattle.values_group.specs.declared.Latest.{Latest}
@@ -70,31 +70,19 @@ integersOf run g from = integerFrom run g (from .x) (from .before)
 abbrev pub Gains : (gain base lowered : ℕ) → Type 0
 Gains gain base lowered = (base ≤ 8589934592) × (lowered ≤ 4294967296) × ((gain + lowered) % 2 ^ 64 ≡ base)
 
--- What the recurrence gives behind two integers, worked out where 2 ^ 64 counts as 0, of numbers that the machine holds.
-pub record Wraps (packed gain x before r : ℕ) : Type 0 where
-  pub sum : (r + before) % 2 ^ 64 ≡ (packed + gain + 2 * x) % 2 ^ 64
-  pub ofNumber : r < 2 ^ 64
-  pub ofGain : gain < 2 ^ 64
-  pub ofPacked : packed < 2 ^ 32
-  pub ofLast : x ≤ mostX
-  pub ofBefore : before ≤ mostX
+-- What the recurrence gives behind two integers, worked out where 2 ^ 64 counts as 0: an integer below 0 is far too large.
+abbrev pub wrapped : (packed gain x before : ℕ) → ℕ
+wrapped packed gain x before = (packed + gain + 2 * x + (2 ^ 64 - before)) % 2 ^ 64
+
+-- That integer, judged by one test.
+abbrev pub tested : (packed gain : ℕ) → declaredWorked.Worked → declaredWorked.Worked
+tested packed gain (Worked.Kept x before) = cond (ltb mostX (wrapped packed gain x before)) Worked.Out (Worked.Kept (wrapped packed gain x before) x)
+tested packed gain Worked.Out = Worked.Out
 
 -- Integers that are kept are in their range.
 abbrev pub Ranged : declaredWorked.Worked → Type 0
 Ranged (Worked.Kept x before) = (x ≤ mostX) × (before ≤ mostX)
 Ranged Worked.Out = _≡_ {A = ℕ} 0 0
-
--- What one packed number gives behind two integers, judged, and what two give.
-abbrev pub JudgedNext : (packed gain x before : ℕ) → declaredWorked.Worked → Type 0
-JudgedNext packed gain x before r = (base lowered : ℕ) → Gains gain base lowered → r ≡ next (packed + base) lowered (Worked.Kept x before)
-
-abbrev pub JudgedTwo : (first second gain x before : ℕ) → declaredWorked.Worked → Type 0
-JudgedTwo first second gain x before r =
-    (base lowered : ℕ) → Gains gain base lowered → r ≡ next (second + base) lowered (next (first + base) lowered (Worked.Kept x before))
-
--- How many numbers are read in windows, of so many pairs that can be: numbers of few bits are read four at a time.
-abbrev pub windowed : ℕ → ℕ → ℕ
-windowed width pairs = cond (leb width 14) (pairs / 2 * 4) (pairs * 2)
 
 -- What is left of a group behind its first numbers.
 abbrev pub behind : declared.Group → ℕ → declared.Group

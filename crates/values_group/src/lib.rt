@@ -3,9 +3,9 @@ ghost use mathlib.Core.Path.{_≡_};
 ghost use Prim.Native.Nat.{_+_, _-_, _*_, _%_, _≤_};
 ghost use lib.ListN.{length};
 ghost use Rattle.laws_rows.specs.Rows.{row, filled};
-ghost use Rattle.bits.specs.Pairs.{Paired, Foured};
+ghost use Rattle.bits.specs.Fours.{Foured};
 ghost use Rattle.values_group.specs.declared.Worked.the-variants as Worked;
-ghost use Rattle.values_group.specs.Group.{mostX, workedBy, Limits, GroupKept, GroupGoes, integersOf, Gains, Wraps, Ranged, JudgedNext, JudgedTwo, windowed, behind};
+ghost use Rattle.values_group.specs.Group.{workedBy, Limits, GroupKept, GroupGoes, integersOf, Gains, wrapped, tested, behind};
 use octets::BitPlace;
 
 // A group as the recurrence takes it: the place of its first packed number, the width of each, its reference with what Zmin adds, what Zmin
@@ -53,19 +53,18 @@ fn gain_of(group: Group) -> u64
 }
 
 // The integer that a packed number gives behind the two latest, where 2 ^ 64 counts as 0: one below 0 is far too large. The last integer comes into the
-// sum last, so that a loop waits for one addition and no more.
+// sum last, so that a loop waits for one addition and no more. Twice the last integer wraps as well, so that nothing is asked of the two.
 fn integer_behind(packed: u32, gain: u64, x: u64, before: u64) -> u64
-    requires { ⌜ (x ≤ mostX) × (before ≤ mostX) ⌝ }
-    ensures { λ r. ⌜ Wraps packed gain x before r ⌝ }
+    ensures { λ r. ⌜ r ≡ wrapped packed gain x before ⌝ }
 {
     let raised = std::num::wrapping_add_u64(packed as u64, gain);
-    std::num::wrapping_add_u64(std::num::wrapping_sub_u64(raised, before), 2 * x)
+    let twice = std::num::wrapping_add_u64(x, x);
+    std::num::wrapping_add_u64(std::num::wrapping_sub_u64(raised, before), twice)
 }
 
 // That integer, judged: one test finds those that are too large and those below 0.
 fn judge_next(packed: u32, gain: u64, x: u64, before: u64) -> Worked
-    requires { ⌜ (x ≤ mostX) × (before ≤ mostX) ⌝ }
-    ensures { λ r. ⌜ (JudgedNext packed gain x before r) × (Ranged r) ⌝ }
+    ensures { λ r. ⌜ r ≡ tested packed gain (Worked.Kept x before) ⌝ }
 {
     let integer = integer_behind(packed, gain, x, before);
     if 2147483647 < integer {
@@ -79,8 +78,7 @@ fn judge_next(packed: u32, gain: u64, x: u64, before: u64) -> Worked
 
 // The integers that two packed numbers give, judged.
 fn judge_two(first: u32, second: u32, gain: u64, x: u64, before: u64) -> Worked
-    requires { ⌜ (x ≤ mostX) × (before ≤ mostX) ⌝ }
-    ensures { λ r. ⌜ (JudgedTwo first second gain x before r) × (Ranged r) ⌝ }
+    ensures { λ r. ⌜ r ≡ tested second gain (tested first gain (Worked.Kept x before)) ⌝ }
 {
     let Worked::Kept {
         x: one,
@@ -121,35 +119,7 @@ fn judge_each(section: &[u8], group: Group, from: u64, latest: u64, earlier: u64
     Worked::Kept { x, before }
 }
 
-// Works out so many pairs of its first integers, where eight octets are left at each.
-fn judge_pairs(section: &[u8], group: Group, pairs: u64, latest: u64, earlier: u64) -> Worked
-    requires { ⌜ (Limits group latest earlier) × (Paired (length (now section)) (group .from .0) (group .width) (group .count) pairs) ⌝ }
-    ensures { λ r. ⌜ r ≡ workedBy (now (section .entry)) group (Worked.Kept latest earlier) (2 * pairs) ⌝ }
-{
-    let width = group.width;
-    let gain = gain_of(group);
-    let mut at = group.from;
-    let mut x = latest;
-    let mut before = earlier;
-    let mut done: u64 = 0;
-    while done < pairs {
-        let taken = bits_reader::take_pair(section, at, width);
-        let Worked::Kept {
-            x: two,
-            before: one,
-        } = judge_two(taken.first, taken.second, gain, x, before)
-        else {
-            return Worked::Out;
-        };
-        before = one;
-        x = two;
-        at = taken.next;
-        done += 1;
-    }
-    Worked::Kept { x, before }
-}
-
-// The same for so many fours of integers.
+// Works out so many fours of its first integers, where eight octets are left behind each.
 fn judge_fours(section: &[u8], group: Group, fours: u64, latest: u64, earlier: u64) -> Worked
     requires { ⌜ (Limits group latest earlier) × (Foured (length (now section)) (group .from .0) (group .width) (group .count) fours) ⌝ }
     ensures { λ r. ⌜ r ≡ workedBy (now (section .entry)) group (Worked.Kept latest earlier) (4 * fours) ⌝ }
@@ -161,7 +131,7 @@ fn judge_fours(section: &[u8], group: Group, fours: u64, latest: u64, earlier: u
     let mut before = earlier;
     let mut done: u64 = 0;
     while done < fours {
-        let taken = bits_reader::take_four(section, at, width);
+        let taken = bits_reader::four_at(section, at, width);
         let Worked::Kept {
             x: two,
             before: one,
@@ -184,38 +154,16 @@ fn judge_fours(section: &[u8], group: Group, fours: u64, latest: u64, earlier: u
     Worked::Kept { x, before }
 }
 
-// How many numbers so many pairs are that can be read two at a time, if numbers of few bits are read four at a time.
-fn windowed(width: u32, pairs: u64) -> u64
-    requires { ⌜ pairs ≤ 4294967296 ⌝ }
-    ensures { λ r. ⌜ r ≡ windowed width pairs ⌝ }
-{
-    if width <= 14 {
-        return pairs / 2 * 4;
-    }
-    pairs * 2
-}
-
-// Works out so many of its first integers, four or two at a time.
-fn judge_windows(section: &[u8], group: Group, pairs: u64, latest: u64, earlier: u64) -> Worked
-    requires { ⌜ (Limits group latest earlier) × (Paired (length (now section)) (group .from .0) (group .width) (group .count) pairs) ⌝ }
-    ensures { λ r. ⌜ r ≡ workedBy (now (section .entry)) group (Worked.Kept latest earlier) (windowed (group .width) pairs) ⌝ }
-{
-    if group.width <= 14 {
-        return judge_fours(section, group, pairs / 2, latest, earlier);
-    }
-    judge_pairs(section, group, pairs, latest, earlier)
-}
-
 // Works out the integers of the group, behind the two latest, and stops at one that is out of its range. It writes nothing.
 pub fn judge(section: &[u8], group: Group, latest: u64, earlier: u64) -> Worked
     requires { ⌜ Limits group latest earlier ⌝ }
     ensures { λ r. ⌜ r ≡ workedBy (now (section .entry)) group (Worked.Kept latest earlier) (group .count) ⌝ }
 {
-    let pairs = bits::pairs_in(section.len(), group.from, group.width, group.count as usize) as u64;
-    let Worked::Kept { x, before } = judge_windows(section, group, pairs, latest, earlier) else {
+    let fours = bits::fours_in(section.len(), group.from, group.width, group.count as usize) as u64;
+    let Worked::Kept { x, before } = judge_fours(section, group, fours, latest, earlier) else {
         return Worked::Out;
     };
-    judge_each(section, group, windowed(group.width, pairs), x, before)
+    judge_each(section, group, 4 * fours, x, before)
 }
 
 // An integer as an element of a block. The remainder is the integer itself, and tells the compiler that it has 31 bits.
@@ -257,42 +205,7 @@ fn unpack_each(
     Latest { x, before }
 }
 
-// Puts so many pairs of its first integers into a block, where eight octets are left at each.
-fn unpack_pairs(
-    section: &[u8],
-    group: Group,
-    pairs: usize,
-    block: &mut [u32],
-    latest: Latest,
-) -> Latest
-    requires { ⌜ (Limits group (latest .x) (latest .before)) × (length (now block) ≤ group .count) ⌝ }
-    requires { ⌜ Paired (length (now section)) (group .from .0) (group .width) (length (now block)) pairs ⌝ }
-    requires { ⌜ GroupKept (now section) group latest (2 * pairs) ⌝ }
-    ensures { λ r. ⌜ GroupGoes (now (section .entry)) group latest (2 * pairs) r ⌝ }
-    ensures { λ _. ⌜ now (block .exit) ≡ filled (integersOf (now (section .entry)) group latest) 0 (2 * pairs) (now (block .entry)) ⌝ }
-{
-    let width = group.width;
-    let gain = gain_of(group);
-    let end = 2 * pairs;
-    let mut at = group.from;
-    let mut x = latest.x;
-    let mut before = latest.before;
-    let mut i: usize = 0;
-    while i < end {
-        let taken = bits_reader::take_pair(section, at, width);
-        let one = integer_behind(taken.first, gain, x, before);
-        let two = integer_behind(taken.second, gain, one, x);
-        block[i] = element(one);
-        block[i + 1] = element(two);
-        before = one;
-        x = two;
-        at = taken.next;
-        i += 2;
-    }
-    Latest { x, before }
-}
-
-// The same for so many fours of integers.
+// Puts so many fours of its first integers into a block, where eight octets are left behind each.
 fn unpack_fours(
     section: &[u8],
     group: Group,
@@ -314,7 +227,7 @@ fn unpack_fours(
     let mut before = latest.before;
     let mut i: usize = 0;
     while i < end {
-        let taken = bits_reader::take_four(section, at, width);
+        let taken = bits_reader::four_at(section, at, width);
         let one = integer_behind(taken.first, gain, x, before);
         let two = integer_behind(taken.second, gain, one, x);
         let three = integer_behind(taken.third, gain, two, one);
@@ -331,26 +244,6 @@ fn unpack_fours(
     Latest { x, before }
 }
 
-// Puts as many of its first integers into a block as are read in windows.
-fn unpack_windows(
-    section: &[u8],
-    group: Group,
-    pairs: usize,
-    block: &mut [u32],
-    latest: Latest,
-) -> Latest
-    requires { ⌜ (Limits group (latest .x) (latest .before)) × (length (now block) ≤ group .count) ⌝ }
-    requires { ⌜ Paired (length (now section)) (group .from .0) (group .width) (length (now block)) pairs ⌝ }
-    requires { ⌜ GroupKept (now section) group latest (windowed (group .width) pairs) ⌝ }
-    ensures { λ r. ⌜ GroupGoes (now (section .entry)) group latest (windowed (group .width) pairs) r ⌝ }
-    ensures { λ _. ⌜ now (block .exit) ≡ filled (integersOf (now (section .entry)) group latest) 0 (windowed (group .width) pairs) (now (block .entry)) ⌝ }
-{
-    if group.width <= 14 {
-        return unpack_fours(section, group, pairs / 2, block, latest);
-    }
-    unpack_pairs(section, group, pairs, block, latest)
-}
-
 // Puts integers of the group into a lent block, from number `done` on, one for each element of the block, behind the two latest.
 pub fn unpack(section: &[u8], group: Group, done: u64, block: &mut [u32], latest: Latest) -> Latest
     requires { ⌜ (Limits group (latest .x) (latest .before)) × (done + length (now block) ≤ group .count) ⌝ }
@@ -359,8 +252,7 @@ pub fn unpack(section: &[u8], group: Group, done: u64, block: &mut [u32], latest
     ensures { λ _. ⌜ now (block .exit) ≡ row (integersOf (now (section .entry)) (behind group done) latest) (length (now (block .entry))) ⌝ }
 {
     let rest = behind(group, done);
-    let pairs = bits::pairs_in(section.len(), rest.from, rest.width, block.len());
-    let last = unpack_windows(section, rest, pairs, block, latest);
-    let from = windowed(rest.width, pairs as u64) as usize;
-    unpack_each(section, rest, from, block, last)
+    let fours = bits::fours_in(section.len(), rest.from, rest.width, block.len());
+    let last = unpack_fours(section, rest, fours, block, latest);
+    unpack_each(section, rest, 4 * fours, block, last)
 }

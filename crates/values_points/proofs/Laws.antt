@@ -99,6 +99,28 @@ module _ (m : Marks) (step : (i : ℕ) → m .rank (i + 1) ≡ m .rank i + m .ma
       each : (i : ℕ) → point ≤ i → i < point + (next - point) → doubleAt p x (m .mark) (λ j. m .rank j - m .rank point) i ≡ doubleAt p field (m .mark) (m .rank) i
       each i h l = value i (m .mark i) refl h l
 
+  -- The runs are as long as they were.
+  pub past-lengths : {p : Packing} {x : ℕ → ℕ} {count point next : ℕ} {a b : Runs} → WrittenPast m p x count point next a b →
+      (length (b .doubles) ≡ length (a .doubles)) × (length (b .marks) ≡ length (a .marks))
+  past-lengths {p} {x} {count} {point} {next} {a} w = (
+    ap length (w .doubles) ∙ filled-length (doubleAt p x (m .mark) (λ i. m .rank i - m .rank point)) point (next - point) (a .doubles),
+    ap length (w .marks) ∙ filled-length (m .mark) point (next - point) (a .marks),
+  )
+
+  -- Integers that are the same by another name.
+  pub past-same : (p : Packing) (x y : ℕ → ℕ) {count point next : ℕ} {a b : Runs} → WrittenPast m p x count point next a b → ((k : ℕ) → k < count → x k ≡ y k) →
+      WrittenPast m p y count point next a b
+  past-same p x y {count} {point} {next} {a} w same =
+      let from : ℕ → ℕ = λ (k : ℕ). y (k - m .rank point) in
+      let place : (k : ℕ) → m .rank point + k - m .rank point ≡ k = λ k. omega arith in
+      record {
+        onward = w .onward;
+        within = w .within;
+        used = w .used;
+        doubles = written-field p x from w (λ k l. same k l ∙ ap y (sym (place k)));
+        marks = w .marks;
+      }
+
   -- Integers that are written behind others, and missing points behind either.
   pub past-then : (p : Packing) (x y : ℕ → ℕ) {count more point i next : ℕ} {a b c : Runs} →
       WrittenPast m p x count point i a b → WrittenPast m p y more i next b c → ((k : ℕ) → k < more → y k ≡ x (count + k)) →
@@ -106,8 +128,7 @@ module _ (m : Marks) (step : (i : ℕ) → m .rank (i + 1) ≡ m .rank i + m .ma
   past-then p x y {count} {more} {point} {i} {next} {a} {b} {c} w v same =
       let x-from : ℕ → ℕ = λ (k : ℕ). x (k - m .rank point) in
       let given : (k : ℕ) → k < more → y k ≡ x (m .rank i + k - m .rank point) = λ k l. let place : count + k ≡ m .rank i + k - m .rank point = omega (arith, w .used) in same k l ∙ ap x place in
-      let length-same : length (b .doubles) ≡ length (a .doubles) =
-      ap length (w .doubles) ∙ filled-length (doubleAt p x (m .mark) (λ j. m .rank j - m .rank point)) point (i - point) (a .doubles) in
+      let length-same = past-lengths w .0 in
       record {
         onward = omega (arith, w .onward, v .onward);
         within = omega (arith, v .within);

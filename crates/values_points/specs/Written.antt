@@ -2,15 +2,14 @@
 -- are present, in order.
 use Prim.Native.Nat.{ℕ, _+_, _-_, _*_, _/_, _%_, _^_, _≤_, _<_}
 use mathlib.Core.Path.{_≡_}
-use mathlib.Core.Bool.{Bool, false, _&&_}
-use lib.Dec.{eqb, leb}
-use mathlib.Core.List.{List}
+use mathlib.Core.Bool.{Bool, true, false, _&&_, cond}
+use lib.Dec.{eqb, leb, ltb}
+use mathlib.Core.List.{List, [], _∷_}
 use lib.IntN.{pos}
 use lib.ListN.{length, getD}
 use lib.Ieee.{Float, fin}
 use denote.Ref.{RefT, now}
 use denote.Triple.Both.{Both}
-use Rattle.octets.specs.Numbers.{numberAt}
 use Rattle.laws_rows.specs.Rows.{row, filled}
 use Rattle.bits.specs.Bits.{bitAt, bitsAt}
 use Rattle.doubles.specs.declared.Packing.{Packing}
@@ -30,6 +29,11 @@ everyPoint = record { mark = λ _. 1; rank = λ i. i }
 abbrev pub onesOf : List ℕ → Marks
 onesOf bitmap = record { mark = bitAt bitmap; rank = onesBefore bitmap }
 
+-- Which points a field has, by its bitmap: all of them where that is empty.
+abbrev pub marksIn : List ℕ → Marks
+marksIn [] = everyPoint
+marksIn (octet ∷ rest) = onesOf (octet ∷ rest)
+
 -- The two runs that are lent for the points of a field: their doubles, and whether each is present.
 pub record Runs : Type 0 where
   pub doubles : List Float
@@ -46,17 +50,17 @@ module _ (values : Both (RefT (List Float)) (RefT (List Float))) (presence : Bot
   abbrev pub left : Runs
   left = runs (now (values .exit)) (now (presence .exit))
 
--- Both runs have one length, of at most 16,777,216 elements.
-abbrev pub Room : List Float → List ℕ → Type 0
-Room values presence = (length presence ≡ length values) × (length values ≤ 16777216)
+-- A bitmap has a bit for each of the first n points, or is empty.
+abbrev pub Covers : List ℕ → ℕ → Type 0
+Covers bitmap n = 1 ≤ length bitmap → n ≤ 8 * length bitmap
 
--- So they have, and a bitmap has a bit for each element.
-abbrev pub MarkedRoom : List ℕ → List Float → List ℕ → Type 0
-MarkedRoom bitmap values presence = (length presence ≡ length values) × (length values ≤ 16777216) × (length values ≤ 8 * length bitmap)
+-- Both runs have one length, of at most 16,777,216 elements, and the bitmap covers them.
+abbrev pub Room : List ℕ → List Float → List ℕ → Type 0
+Room bitmap values presence = (length presence ≡ length values) × (length values ≤ 16777216) × Covers bitmap (length values)
 
--- Of the n points of a field, at least `count` that a bitmap has are left from one on.
+-- Of the n points of a field, at least `count` that are present are left from one on.
 abbrev pub PointsLeft : List ℕ → (point count n : ℕ) → Type 0
-PointsLeft bitmap point count n = (point ≤ n) × (onesBefore bitmap point + count ≤ onesBefore bitmap n)
+PointsLeft bitmap point count n = (point ≤ n) × (marksIn bitmap .rank point + count ≤ marksIn bitmap .rank n)
 
 -- The points from `point` up to `next` are written, and no other: `count` integers went to those of them that are present. Missing points behind
 -- the last integer may be among them.
@@ -73,38 +77,31 @@ pub record Written (m : Marks) (p : Packing) (x : ℕ → ℕ) (count point next
   pub least : (i : ℕ) → point ≤ i → i < next → m .rank i < m .rank point + count
 
 -- The points from `point` up to `next` are missing, and so written.
-pub record Missing (bitmap : List ℕ) (point next : ℕ) (before after : Runs) : Type 0 where
+pub record Missing (m : Marks) (point next : ℕ) (before after : Runs) : Type 0 where
   pub onward : point ≤ next
   pub within : next ≤ length (before .doubles)
-  pub missing : (i : ℕ) → point ≤ i → i < next → bitAt bitmap i ≡ 0
+  pub missing : (i : ℕ) → point ≤ i → i < next → m .mark i ≡ 0
   pub doubles : after .doubles ≡ filled (λ _. fin false 0 (pos 0)) point (next - point) (before .doubles)
   pub marks : after .marks ≡ filled (λ _. 0) point (next - point) (before .marks)
 
 -- They are missing, and the next one is present, if it is not the end.
-pub record Cleared (bitmap : List ℕ) (point next : ℕ) (before after : Runs) : Type 0 where
-  pub past : Missing bitmap point next before after
-  pub present : next < length (before .doubles) → bitAt bitmap next ≡ 1
+pub record Cleared (m : Marks) (point next : ℕ) (before after : Runs) : Type 0 where
+  pub past : Missing m point next before after
+  pub present : next < length (before .doubles) → m .mark next ≡ 1
 
 -- Both runs are written from their first element to their last: the integer numbered m is `x m`.
 abbrev pub Filled : Marks → Packing → (ℕ → ℕ) → Runs → Runs → Type 0
 Filled m p x before after =
     (after .doubles ≡ row (doubleAt p x (m .mark) (m .rank)) (length (before .doubles))) × (after .marks ≡ row (m .mark) (length (before .doubles)))
 
--- The 64 points from `from` on, up to the end at most, fill eight octets of the bitmap, and all bits of these are set.
-abbrev pub isFull : List ℕ → ℕ → ℕ → Bool
-isFull bitmap from end = eqb (from % 8) 0 && leb (from + 64) end && eqb (numberAt bitmap (from / 8) 8) (2 ^ 64 - 1)
-
--- The points from `from` up to `next` are present, and the next one is missing, if it is not the end.
-pub record Until (bitmap : List ℕ) (from end next : ℕ) : Type 0 where
-  pub onward : from ≤ next
-  pub within : next ≤ end
-  pub present : (i : ℕ) → from ≤ i → i < next → bitAt bitmap i ≡ 1
-  pub missing : next < end → bitAt bitmap next ≡ 0
+-- A block has at most 56 integers, and at most those that are left.
+abbrev pub blockLength : ℕ → ℕ
+blockLength left = cond (ltb left 56) left 56
 
 -- The integers of a block, as elements of 31 bits.
 abbrev pub integersIn : List ℕ → ℕ → ℕ
 integersIn block k = getD block k 0 % 2147483648
 
--- The n points from `point` on are present, as one window of the bitmap tells. Near the bitmap's end there is no window, and none is told of.
+-- The n points from `point` on are present, as one window of the bitmap tells, or as it is empty. Near the bitmap's end there is no window, and none is told of.
 abbrev pub arePresent : List ℕ → ℕ → ℕ → Bool
-arePresent bitmap point n = leb (point / 8 + 8) (length bitmap) && eqb (bitsAt bitmap point n) (2 ^ n - 1)
+arePresent bitmap point n = cond (eqb (length bitmap) 0) true (leb (point / 8 + 8) (length bitmap) && eqb (bitsAt bitmap point n) (2 ^ n - 1))

@@ -1,173 +1,98 @@
-// Simple packing (5.0): the doubles and the presence of a field's points, written into runs lent for them.
+// Simple packing (5.0): the integers X of a field, put into a lent block, and a field's points, written into runs lent for them.
 ghost use mathlib.Core.Path.{_≡_};
-ghost use Prim.Native.Nat.{_+_, _-_, _*_, _/_, _≤_};
+ghost use Prim.Native.Nat.{_+_, _-_, _*_, _≤_};
 ghost use lib.ListN.{length};
-ghost use Rattle.bits.specs.Pairs.{Foured};
-ghost use Rattle.values_points.specs.Written.{everyPoint, onesOf, lent, left, Room, MarkedRoom, Filled};
+ghost use Rattle.laws_rows.specs.Rows.{row, filled};
+ghost use Rattle.bits.specs.Fours.{Foured};
+ghost use Rattle.values_points.specs.Written.{marksIn, lent, left, Room, Filled};
 ghost use Rattle.values_integers.specs.Integers.{simpleInteger};
-ghost use Rattle.values_simple.specs.Simple.{NumbersWritten};
+ghost use Rattle.values_simple.specs.Simple.{numbersFrom, integersBehind, ZerosWithoutBits};
 use doubles::Packing;
 use octets::BitPlace;
 use octets::OctetNumber;
 
-// Writes points that are all present, from `from` up to `to`, whose numbers start at bit `first`: one by one. It answers the place behind them.
-fn fill_each(
-    section: &[u8],
-    bits: u32,
-    packing: Packing,
-    values: &mut [f64],
-    presence: &mut [u8],
-    from: usize,
-    to: usize,
-    first: BitPlace,
-) -> BitPlace
-    requires { ⌜ Room (now values) (now presence) × (first .0 ≤ 2199023255552) ⌝ }
-    requires { ⌜ (from ≤ to) × (to ≤ length (now values)) × (bits ≤ 31) ⌝ }
-    ensures { λ _. ⌜ NumbersWritten packing (now (section .entry)) bits (first .0) from to (lent values presence) (left values presence) ⌝ }
-    ensures { λ r. ⌜ r .0 ≡ first .0 + (to - from) * bits ⌝ }
+// Puts numbers into a block one by one, from element `from` on. The first of them stands at a place.
+fn unpack_each(section: &[u8], bits: u32, first: BitPlace, from: usize, block: &mut [u32])
+    requires { ⌜ (first .0 ≤ 2199023255552) × (bits ≤ 31) × (from ≤ length (now block)) × (length (now block) ≤ 4294967296) ⌝ }
+    ensures { λ _. ⌜ now (block .exit) ≡ filled (λ i. numbersFrom (now (section .entry)) bits (first .0) (i - from))
+        from (length (now (block .entry)) - from) (now (block .entry)) ⌝ }
 {
     let mut at = first;
     let mut i = from;
-    while i < to {
+    while i < block.len() {
         let taken = bits_reader::take(section, at, bits);
-        values[i] = doubles::rebuild(packing, taken.number);
-        presence[i] = 1;
+        block[i] = taken.number;
         at = taken.next;
         i += 1;
     }
-    at
 }
 
-// The same for so many pairs of points, where eight octets are left at each of their numbers.
-fn fill_pairs(
+// Puts so many fours of numbers into a block, from its first element on, and answers the place behind them.
+fn unpack_fours(
     section: &[u8],
     bits: u32,
-    packing: Packing,
-    values: &mut [f64],
-    presence: &mut [u8],
-    from: usize,
-    pairs: usize,
     first: BitPlace,
-) -> BitPlace
-    requires { ⌜ Room (now values) (now presence) × (first .0 ≤ 1099511627776) ⌝ }
-    requires { ⌜ (from + 2 * pairs ≤ length (now values)) × (bits ≤ 28) × ((first .0 + 2 * pairs * bits) / 8 + 8 ≤ length (now section)) ⌝ }
-    ensures { λ _. ⌜ NumbersWritten packing (now (section .entry)) bits (first .0) from (from + 2 * pairs) (lent values presence) (left values presence) ⌝ }
-    ensures { λ r. ⌜ r .0 ≡ first .0 + 2 * pairs * bits ⌝ }
-{
-    let end = from + 2 * pairs;
-    let mut at = first;
-    let mut i = from;
-    while i < end {
-        let taken = bits_reader::take_pair(section, at, bits);
-        values[i] = doubles::rebuild(packing, taken.first);
-        presence[i] = 1;
-        values[i + 1] = doubles::rebuild(packing, taken.second);
-        presence[i + 1] = 1;
-        at = taken.next;
-        i += 2;
-    }
-    at
-}
-
-// The same for so many fours of points. The doubles of a window are written before its marks, so that the compiler makes two at a time.
-fn fill_fours(
-    section: &[u8],
-    bits: u32,
-    packing: Packing,
-    values: &mut [f64],
-    presence: &mut [u8],
-    from: usize,
     fours: usize,
-    first: BitPlace,
+    block: &mut [u32],
 ) -> BitPlace
-    requires { ⌜ Room (now values) (now presence) × (first .0 ≤ 1099511627776) × (from + 4 * fours ≤ length (now values)) ⌝ }
-    requires { ⌜ Foured (length (now section)) (first .0) bits (4 * fours) fours ⌝ }
-    ensures { λ _. ⌜ NumbersWritten packing (now (section .entry)) bits (first .0) from (from + 4 * fours) (lent values presence) (left values presence) ⌝ }
+    requires { ⌜ (first .0 ≤ 1099511627776) × (length (now block) ≤ 4294967296) ⌝ }
+    requires { ⌜ Foured (length (now section)) (first .0) bits (length (now block)) fours ⌝ }
     ensures { λ r. ⌜ r .0 ≡ first .0 + 4 * fours * bits ⌝ }
+    ensures { λ _. ⌜ now (block .exit) ≡ filled (numbersFrom (now (section .entry)) bits (first .0)) 0 (4 * fours) (now (block .entry)) ⌝ }
 {
-    let end = from + 4 * fours;
+    let end = 4 * fours;
     let mut at = first;
-    let mut i = from;
+    let mut i: usize = 0;
     while i < end {
-        let taken = bits_reader::take_four(section, at, bits);
-        values[i] = doubles::rebuild(packing, taken.first);
-        values[i + 1] = doubles::rebuild(packing, taken.second);
-        values[i + 2] = doubles::rebuild(packing, taken.third);
-        values[i + 3] = doubles::rebuild(packing, taken.fourth);
-        presence[i] = 1;
-        presence[i + 1] = 1;
-        presence[i + 2] = 1;
-        presence[i + 3] = 1;
+        let taken = bits_reader::four_at(section, at, bits);
+        block[i] = taken.first;
+        block[i + 1] = taken.second;
+        block[i + 2] = taken.third;
+        block[i + 3] = taken.fourth;
         at = taken.next;
         i += 4;
     }
     at
 }
 
-// Writes points that are all present, from `from` up to `to`, whose numbers start at bit `first`.
-fn fill_present(
-    section: &[u8],
-    bits: u32,
-    packing: Packing,
-    values: &mut [f64],
-    presence: &mut [u8],
-    from: usize,
-    to: usize,
-    first: BitPlace,
-) -> BitPlace
-    requires { ⌜ Room (now values) (now presence) × (first .0 ≤ 1099511627776) ⌝ }
-    requires { ⌜ (from ≤ to) × (to ≤ length (now values)) × (bits ≤ 31) ⌝ }
-    ensures { λ _. ⌜ NumbersWritten packing (now (section .entry)) bits (first .0) from to (lent values presence) (left values presence) ⌝ }
-    ensures { λ r. ⌜ r .0 ≡ first .0 + (to - from) * bits ⌝ }
+// Puts integers into a lent block, from number `done` of the field on, one for each element. Those of no bits are zeros, as the block has to be then: a
+// loop that writes zeros would become a call of the C library.
+pub fn unpack(section: &[u8], bits: u32, done: u64, block: &mut [u32])
+    requires { ⌜ (bits ≤ 31) × (done ≤ 16777216) × (length (now block) ≤ 16777216) × (ZerosWithoutBits bits (now block)) ⌝ }
+    ensures { λ _. ⌜ now (block .exit) ≡ row (integersBehind (now (section .entry)) bits done) (length (now (block .entry))) ⌝ }
 {
-    let pairs = bits::pairs_in(section.len(), first, bits, to - from);
-    if pairs == 0 {
-        return fill_each(section, bits, packing, values, presence, from, to, first);
+    if bits == 0 {
+        return;
     }
-    if bits <= 14 {
-        let fours = pairs / 2;
-        let next = fill_fours(section, bits, packing, values, presence, from, fours, first);
-        let rest = from + 4 * fours;
-        return fill_each(section, bits, packing, values, presence, rest, to, next);
-    }
-    let next = fill_pairs(section, bits, packing, values, presence, from, pairs, first);
-    let rest = from + 2 * pairs;
-    fill_each(section, bits, packing, values, presence, rest, to, next)
+    let start = octets::first_bit(OctetNumber(6));
+    let first = BitPlace(start.0 + done as usize * bits as usize);
+    let fours = bits::fours_in(section.len(), first, bits, block.len());
+    let next = unpack_fours(section, bits, first, fours, block);
+    unpack_each(section, bits, next, 4 * fours, block);
 }
 
-// Fills the runs for a field whose points are all present.
-pub fn fill_all(
-    section: &[u8],
-    bits: u32,
-    packing: Packing,
-    values: &mut [f64],
-    presence: &mut [u8],
-)
-    requires { ⌜ Room (now values) (now presence) × (bits ≤ 31) ⌝ }
-    ensures { λ _. ⌜ Filled everyPoint packing (simpleInteger (now (section .entry)) bits) (lent values presence) (left values presence) ⌝ }
-{
-    let first = octets::first_bit(OctetNumber(6));
-    let n = values.len();
-    fill_present(section, bits, packing, values, presence, 0, n, first);
-}
-
-// Fills the runs for a field with a bitmap: by turns a stretch of points that are present, and one of points that are missing.
-pub fn fill_marked(
+// Fills the runs for a field of n integers: a block at a time.
+pub fn fill(
     section: &[u8],
     bitmap: &[u8],
     bits: u32,
+    n: u64,
     packing: Packing,
     values: &mut [f64],
     presence: &mut [u8],
 )
-    requires { ⌜ MarkedRoom (now bitmap) (now values) (now presence) × (bits ≤ 31) ⌝ }
-    ensures { λ _. ⌜ Filled (onesOf (now (bitmap .entry))) packing (simpleInteger (now (section .entry)) bits) (lent values presence) (left values presence) ⌝ }
+    requires { ⌜ (Room (now bitmap) (now values) (now presence)) × (bits ≤ 31) × (n ≡ marksIn (now bitmap) .rank (length (now values))) ⌝ }
+    ensures { λ _. ⌜ Filled (marksIn (now (bitmap .entry))) packing (simpleInteger (now (section .entry)) bits)
+        (lent values presence) (left values presence) ⌝ }
 {
-    let mut at = octets::first_bit(OctetNumber(6));
-    let mut i: usize = 0;
-    while i < values.len() {
-        let until = values_points::present_until(bitmap, i, values.len());
-        at = fill_present(section, bits, packing, values, presence, i, until, at);
-        i = values_points::clear_missing(bitmap, values, presence, until);
+    let mut block = [0u32; 56];
+    let mut point: usize = 0;
+    let mut done: u64 = 0;
+    while done < n {
+        let count = values_points::block_length(n - done);
+        unpack(section, bits, done, &mut block[0..count]);
+        point = values_points::write(bitmap, packing, &block[0..count], values, presence, point);
+        done += count as u64;
     }
+    values_points::clear_missing(bitmap, values, presence, point);
 }

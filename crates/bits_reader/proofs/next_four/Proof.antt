@@ -23,7 +23,7 @@ use denote.Triple.Statement.{Contract, Triple}
 use denote.Triple.Table.{cited}
 use denote.Triple.Walked.{says}
 use Rattle.octets.specs.declared.BitPlace.{BitPlace}
-use Rattle.bits.specs.Pairs.{FourFound}
+use Rattle.bits.specs.Fours.{FourFound}
 use Rattle.bits.specs.declared.Four.{Four}
 use Rattle.bits_reader.specs.declared.BitReader.{BitReader}
 use Rattle.bits_reader.specs.declared.ReadFour.{ReadFour}

@@ -1,17 +1,16 @@
--- `values_group::unpack` meets its contract: behind the integers that are read in windows the others are put one by one, and the block has them all.
-use mathlib.Core.Path.{_≡_, refl, sym, ap, _∙_, subst}
-use Prim.Native.Nat.{_+_, _-_, _≤_}
+-- `values_group::unpack` meets its contract: behind the integers that are put four at a time the others are put one by one, and the block has them all.
+use mathlib.Core.Path.{_≡_, refl, sym, ap, _∙_}
+use Prim.Native.Nat.{_*_, _≤_}
 use native.Mathlib.Omega.{arith}
 use borrow.Author.Needs.{needs}
 use lib.ListN.{length}
-use Rattle.bits.specs.Pairs.{Paired}
-use Rattle.bits.proofs.Pairs.{pairs-paired}
+use Rattle.bits.specs.Fours.{Foured}
+use Rattle.bits.proofs.Fours.{fours-foured}
 use Rattle.laws_rows.proofs.Laws.{filled-length}
-use Rattle.values_group.specs.declared.Group.{Group}
 use Rattle.values_group.specs.declared.Worked.the-variants as Worked
-use Rattle.values_group.specs.Group.{workedBy, isKept, Limits, GroupKept, integersOf, windowed, behind}
+use Rattle.values_group.specs.Group.{isKept, Limits, GroupKept, integersOf}
 use Rattle.values_group.proofs.Steps.{kept-earlier}
-use Rattle.values_group.proofs.Left.{behind-limits, behind-kept, limits-on, block-joined, windowed-few}
+use Rattle.values_group.proofs.Left.{behind-limits, behind-all, limits-on, block-joined}
 use Rattle.values_group.proofs.unpack.Statement.{statement}
 use Rattle.values_group.proofs.unpack.Tie as tie
 
@@ -21,94 +20,62 @@ behind-requires c κs =
     let sizes = s .pre .0 .0 in
     (omega (arith, s .pre .0 .1), omega (arith, sizes .ofEnd), sizes .ofWidth, sizes .ofCount)
 
--- What is known of what is left: its sizes, and that its integers are in their range.
-sizes-left : (c : tie.After-behind) → let a = c .before .before .before .args in Limits (c .behind .result) (a .latest .x) (a .latest .before)
-sizes-left c =
+-- What is left of the group keeps its sizes, its integers are in their range, and there are enough of them.
+left : (c : tie.After-behind) →
+    let a = c .before .before .before .args in
+    let g = c .behind .result in
+    Limits g (a .latest .x) (a .latest .before) × GroupKept (a .section .now) g (a .latest) (length (a .block .now)) × (length (a .block .now) ≤ g .count)
+left c =
     let s = c .before .before .before in
-    let a = s .args in
-    subst (λ (g : Group). Limits g (a .latest .x) (a .latest .before)) (sym (c .behind .ensures)) (behind-limits (a .section .now) (a .group) (a .done) (s .pre .0 .0) (omega (arith, s .pre .0 .1)))
+    let sizes = behind-limits (s .args .section .now) (s .args .group) (s .args .done) (s .pre .0 .0) (omega (arith, s .pre .0 .1)) in
+    rw (c .behind .ensures) (sizes, s .pre .1, omega (arith, s .pre .0 .1))
 
-kept-left : (c : tie.After-behind) → let a = c .before .before .before .args in GroupKept (a .section .now) (c .behind .result) (a .latest) (length (a .block .now))
-kept-left c =
-    let s = c .before .before .before in
-    let a = s .args in
-    subst (λ (g : Group). GroupKept (a .section .now) g (a .latest) (length (a .block .now))) (sym (c .behind .ensures)) (s .pre .1)
+fours-in-requires : tie.Need-fours-in-requires
+fours-in-requires c κs = (omega (arith, left c .0 .ofEnd), omega (arith, left c .2, left c .0 .ofCount))
 
-enough : (c : tie.After-behind) → let a = c .before .before .before .args in length (a .block .now) ≤ c .behind .result .count
-enough c =
-    let s = c .before .before .before in
-    let a = s .args in
-    subst (λ (g : Group). length (a .block .now) ≤ g .count) (sym (c .behind .ensures)) (omega (arith, s .pre .0 .1))
-
-pairs-in-requires : tie.Need-pairs-in-requires
-pairs-in-requires c κs = (omega (arith, sizes-left c .ofEnd), omega (arith, enough c, sizes-left c .ofCount))
-
--- The numbers of so many pairs can be read two at a time.
-paired : (c : tie.After-pairs-in) →
+-- So many numbers can be read four at a time.
+foured : (c : tie.After-fours-in) →
     let g = c .before .behind .result in
     let a = c .before .before .before .before .args in
-    Paired (length (a .section .now)) (g .from .0) (g .width) (length (a .block .now)) (c .pairs-in .result)
-paired c =
+    Foured (length (a .section .now)) (g .from .0) (g .width) (length (a .block .now)) (c .fours-in .result)
+foured c =
     let g = c .before .behind .result in
     let a = c .before .before .before .before .args in
-    pairs-paired (length (a .section .now)) (g .from .0) (g .width) (length (a .block .now)) (c .pairs-in .ensures)
+    fours-foured (length (a .section .now)) (g .from .0) (g .width) (length (a .block .now)) (c .fours-in .ensures)
 
-unpack-windows-requires : tie.Need-unpack-windows-requires
-unpack-windows-requires c κs =
-    let counted = c .before in
-    let b = counted .before in
-    let a = b .before .before .before .args in
-    let g = b .behind .result in
-    let few = windowed-few (g .width) (paired counted) in
-    ((sizes-left b, enough b), (paired counted, kept-earlier (a .section .now) g (Worked.Kept (a .latest .x) (a .latest .before)) (length (a .block .now)) (windowed (g .width) (counted .pairs-in .result)) few (kept-left b)))
+unpack-fours-requires : tie.Need-unpack-fours-requires
+unpack-fours-requires c κs =
+    let f = c .before in
+    let a = f .before .before .before .before .args in
+    let rest = left (f .before) in
+    let earlier = kept-earlier (a .section .now) (f .before .behind .result) (Worked.Kept (a .latest .x) (a .latest .before)) (length (a .block .now)) in
+    ((rest .0, rest .2), (foured f, earlier (4 * f .fours-in .result) (foured f .few) (rest .1)))
 
-windowed-requires : tie.Need-windowed-requires
-windowed-requires c κs =
-    let counted = c .before .before .before .before in
-    omega (arith, paired counted .few, enough (counted .before), sizes-left (counted .before) .ofCount)
+mul-unpack-each : tie.Need-mul-unpack-each
+mul-unpack-each c =
+    let f = c .before .before .before .before in
+    omega (arith, foured f .few, left (f .before) .2, left (f .before) .0 .ofCount)
 
 -- The block keeps its length.
-same-block : (c : tie.After-unpack-windows) → let a = c .before .before .before .before .before .before .args in length (c .unpack-windows .last .1 .1 .1 .0) ≡ length (a .block .now)
+same-block : (c : tie.After-unpack-fours) →
+    length (c .unpack-fours .last .1 .1 .1 .0) ≡ length (c .before .before .before .before .before .before .args .block .now)
 same-block c =
-    let b = c .before .before .before in
-    let a = b .before .before .before .args in
-    let g = b .behind .result in
-    let done = windowed (g .width) (c .before .before .pairs-in .result) in
-    ap length (c .unpack-windows .ensures .1) ∙ filled-length (integersOf (a .section .now) g (a .latest)) 0 done (a .block .now)
-
--- What is left behind the windows is in its range too.
-kept-rest : (c : tie.After-unpack-windows) →
-    let b = c .before .before .before in
-    let a = b .before .before .before .args in
-    let g = b .behind .result in
-    let done = windowed (g .width) (c .before .before .pairs-in .result) in
-    workedBy (a .section .now) (behind g done) (Worked.Kept (c .unpack-windows .result .x) (c .unpack-windows .result .before)) (length (a .block .now) - done)
-    ≡ workedBy (a .section .now) g (Worked.Kept (a .latest .x) (a .latest .before)) (length (a .block .now))
-kept-rest c =
-    let counted = c .before .before in
-    let b = counted .before in
-    let a = b .before .before .before .args in
-    let g = b .behind .result in
-    let done = windowed (g .width) (counted .pairs-in .result) in
-    let all : done + (length (a .block .now) - done) ≡ length (a .block .now) = omega (arith, windowed-few (g .width) (paired counted)) in
-    behind-kept (a .section .now) g (a .latest .x) (a .latest .before) done (c .unpack-windows .ensures .0) (length (a .block .now) - done)
-    ∙ ap (workedBy (a .section .now) g (Worked.Kept (a .latest .x) (a .latest .before))) all
+    let f = c .before .before in
+    let a = f .before .before .before .before .args in
+    ap length (c .unpack-fours .ensures .1)
+    ∙ filled-length (integersOf (a .section .now) (f .before .behind .result) (a .latest)) 0 (4 * f .fours-in .result) (a .block .now)
 
 unpack-each-requires : tie.Need-unpack-each-requires
 unpack-each-requires c κs =
-    let windows = c .before .before .before .before in
-    let counted = windows .before .before in
-    let b = counted .before in
-    let a = b .before .before .before .args in
-    let g = b .behind .result in
-    let done = windowed (g .width) (counted .pairs-in .result) in
-    let few = windowed-few (g .width) (paired counted) in (
-      (
-        limits-on (a .section .now) g (a .latest .x) (a .latest .before) done (windows .unpack-windows .ensures .0) (sizes-left b),
-        rw (c .before .windowed .ensures, same-block windows) few,
-        rw (same-block windows) (enough b),
-      ),
-      rw (c .before .windowed .ensures, same-block windows) (ap isKept (kept-rest windows) ∙ kept-left b),
+    let u = c .before .before .before in
+    let f = u .before .before in
+    let g = f .before .behind .result in
+    let a = f .before .before .before .before .args in
+    let rest = left (f .before) in
+    let done = 4 * f .fours-in .result in
+    rw (same-block u) (
+      (limits-on (a .section .now) g (a .latest .x) (a .latest .before) done (u .unpack-fours .ensures .0) (rest .0), foured f .few, rest .2),
+      ap isKept (behind-all (a .section .now) g (a .latest .x) (a .latest .before) done (u .unpack-fours .ensures .0) (foured f .few)) ∙ rest .1,
     )
 
 same-length : tie.Need-same-length
@@ -116,21 +83,18 @@ same-length c = search needs
 
 returns : tie.Need-returns
 returns c =
-    let each = c .before .before .unpack-each in
-    let from = c .before .before .before .before .windowed in
-    let windows = c .before .before .before .before .before .before .before in
-    let counted = windows .before .before in
-    let b = counted .before in
-    let a = b .before .before .before .args in
-    let g = b .behind .result in
-    let done = windowed (g .width) (counted .pairs-in .result) in
-    let goes = kept-rest windows in
-    let left = rw (from .ensures, same-block windows) at (each .ensures .1) in
-    let joined =
-    block-joined (a .section .now) g (a .latest .x) (a .latest .before) done (windows .unpack-windows .ensures .0) (length (a .block .now)) (a .block .now) (windows .unpack-windows .last .1 .1 .1 .0)
-    (each .last .1 .1 .1 .0) (windowed-few (g .width) (paired counted)) refl (windows .unpack-windows .ensures .1) left in (
-      rw (b .behind .ensures) at (sym goes ∙ (rw (from .ensures, same-block windows) at (each .ensures .0))),
-      rw (b .behind .ensures) at joined,
+    let e = c .before .before in
+    let u = e .before .before .before .before in
+    let f = u .before .before in
+    let g = f .before .behind .result in
+    let a = f .before .before .before .before .args in
+    let done = 4 * f .fours-in .result in
+    let told = rw (same-block u) at (e .unpack-each .ensures) in
+    let goes = u .unpack-fours .ensures .0 in
+    rw (← f .before .behind .ensures) (
+      sym (behind-all (a .section .now) g (a .latest .x) (a .latest .before) done goes (foured f .few)) ∙ told .0,
+      block-joined (a .section .now) g (a .latest .x) (a .latest .before) done goes (a .block .now)
+          (foured f .few) refl (u .unpack-fours .ensures .1) (told .1),
     )
 
 pub unpack-spec : {M : Type 1} → statement M
@@ -138,9 +102,9 @@ unpack-spec =
     tie.close
     (tie.spec
     behind-requires
-    pairs-in-requires
-    unpack-windows-requires
-    windowed-requires
+    fours-in-requires
+    unpack-fours-requires
+    mul-unpack-each
     unpack-each-requires
     same-length
     returns)

@@ -3,16 +3,17 @@ use mathlib.Core.Path.{_≡_, refl, sym, _∙_}
 use Prim.Native.Nat.{_-_}
 use native.Mathlib.Omega.{arith}
 use borrow.Author.Needs.{needs}
+use borrow.Author.Tests.{eqb-true, eqb-false}
 use lib.ListN.{length, length-set}
-use Rattle.bits.proofs.Laws.{bit-lt}
-use Rattle.values_points.specs.Written.{runs, Missing}
+use Rattle.values_points.specs.Written.{marksIn, runs, Missing}
+use Rattle.values_points.proofs.Marks.{ranked}
 use Rattle.values_points.proofs.Missing.{zero-literal, missing-none, missing-more}
 use Rattle.values_points.proofs.clear_missing.Statement.{statement}
 use Rattle.values_points.proofs.clear_missing.Tie as tie
 
 abbrev Inv-loop : tie.InvT-loop
 Inv-loop bitmap values₀ presence₀ point i₀ values presence i =
-    (length values ≡ length values₀) × (length presence ≡ length presence₀) × Missing bitmap point i (runs values₀ presence₀) (runs values presence)
+    (length values ≡ length values₀) × (length presence ≡ length presence₀) × Missing (marksIn bitmap) point i (runs values₀ presence₀) (runs values presence)
 
 abbrev μ-loop : tie.MeasureT-loop
 μ-loop bitmap values₀ presence₀ point i₀ values presence i = length values₀ - i
@@ -20,10 +21,10 @@ abbrev μ-loop : tie.MeasureT-loop
 loop-holds : tie.Need-loop-holds Inv-loop μ-loop
 loop-holds c =
     let a = c .before .before .before .args in
-    (refl, refl, missing-none (a .bitmap .now) (a .point) (runs (a .values .now) (a .presence .now)) (c .before .before .before .pre .1))
+    (refl, refl, missing-none (marksIn (a .bitmap .now)) (a .point) (runs (a .values .now) (a .presence .now)) (c .before .before .before .pre .1))
 
-bit-in-requires : tie.Need-bit-in-requires Inv-loop μ-loop
-bit-in-requires c κs = search needs
+is-present-requires : tie.Need-is-present-requires Inv-loop μ-loop
+is-present-requires c κs = λ some. omega (arith, c .before .before .before .before .before .pre .0 .2 some)
 
 same-length : tie.Need-same-length Inv-loop μ-loop
 same-length c = search needs
@@ -35,7 +36,7 @@ returns : tie.Need-returns Inv-loop μ-loop
 returns c =
     let l = c .before .before .before in
     let a = l .before .before .before .before .args in
-    record { past = l .loop .inv .2; present = λ _. omega (arith, c .before .bit-in .ensures, c .if1 .taken, bit-lt (a .bitmap .now) (l .loop .i)) }
+    record { past = l .loop .inv .2; present = λ _. eqb-true (marksIn (a .bitmap .now) .mark (l .loop .i)) 1 (sym (c .before .is-present .ensures) ∙ c .if1 .taken) }
 
 mul-values : tie.Need-mul-values Inv-loop μ-loop
 mul-values c = search needs
@@ -59,7 +60,8 @@ loop-again c =
     rw zero-literal (
       length-set (l .loop .values) (l .loop .i) _ ∙ l .loop .inv .0,
       length-set (l .loop .presence) (l .loop .i) _ ∙ l .loop .inv .1,
-      missing-more (a .bitmap .now) (a .point) (runs (a .values .now) (a .presence .now)) (l .loop .inv .2) (omega arith) (sym (c .before .bit-in .ensures) ∙ c .if1 .left),
+      missing-more (marksIn (a .bitmap .now)) (a .point) (runs (a .values .now) (a .presence .now)) (l .loop .inv .2) (omega arith)
+          (omega (arith, ranked (a .bitmap .now) .few (l .loop .i), eqb-false (marksIn (a .bitmap .now) .mark (l .loop .i)) 1 (sym (c .before .is-present .ensures) ∙ c .if1 .left))),
     )
 
 same-length-3 : tie.Need-same-length-3 Inv-loop μ-loop
@@ -78,7 +80,7 @@ clear-missing-spec =
     Inv-loop
     μ-loop
     loop-holds
-    bit-in-requires
+    is-present-requires
     same-length
     same-length-2
     returns

@@ -4,9 +4,8 @@ use Prim.Native.Nat.{ℕ, _+_, _-_, _≤_, _<_}
 use native.Mathlib.Omega.{arith}
 use borrow.Author.Needs.{needs}
 use lib.ListN.{length}
-use Rattle.section_6.specs.Presence.{onesBefore}
-use Rattle.section_6.proofs.Laws.{ones-more}
-use Rattle.values_points.specs.Written.{onesOf, runs, Written, integersIn}
+use Rattle.values_points.specs.Written.{marksIn, runs, Written, integersIn}
+use Rattle.values_points.proofs.Marks.{ranked}
 use Rattle.values_points.proofs.Laws.{written-none, written-then}
 use Rattle.values_points.proofs.write_each.Statement.{statement}
 use Rattle.values_points.proofs.write_each.Tie as tie
@@ -16,7 +15,7 @@ Inv-loop bitmap packing block values₀ presence₀ point next₀ k₀ values pr
     (k ≤ length block)
     × (length values ≡ length values₀)
     × (length presence ≡ length presence₀)
-    × Written (onesOf bitmap) packing (integersIn block) k point next (runs values₀ presence₀) (runs values presence)
+    × Written (marksIn bitmap) packing (integersIn block) k point next (runs values₀ presence₀) (runs values presence)
 
 abbrev μ-loop : tie.MeasureT-loop
 μ-loop bitmap packing block values₀ presence₀ point next₀ k₀ values presence next k = length block - k
@@ -28,7 +27,7 @@ loop-holds c =
       omega arith,
       refl,
       refl,
-      written-none (onesOf run) (ones-more run) (s .args .packing) (integersIn (s .args .block .now)) (s .args .point)
+      written-none (marksIn run) (ranked run .more) (s .args .packing) (integersIn (s .args .block .now)) (s .args .point)
           (runs (s .args .values .now) (s .args .presence .now)) (s .pre .1 .0),
     )
 
@@ -42,7 +41,10 @@ write-next-requires : tie.Need-write-next-requires Inv-loop μ-loop
 write-next-requires c κs =
     let l = c .before .before .before .before .loop in
     let s = c .before .before .before .before .before .before .before .before .before in
-    omega (arith, l .inv .3 .past .used, l .inv .3 .past .within, ap (onesBefore (s .args .bitmap .now)) (l .inv .1), s .pre .1)
+    let all = ap (marksIn (s .args .bitmap .now) .rank) (l .inv .1) in (
+      (omega arith, omega arith, λ some. omega (arith, s .pre .0 .2 some, l .inv .1)),
+      (omega (arith, l .inv .3 .past .within, l .inv .1), omega (arith, l .inv .3 .past .used, all, s .pre .1)),
+    )
 
 add-k : tie.Need-add-k Inv-loop μ-loop
 add-k c = search needs
@@ -61,7 +63,7 @@ loop-again c =
       omega arith,
       omega (arith, write .write-next .kept),
       omega (arith, write .write-next .kept),
-      written-then (onesOf run) (ones-more run) (s .args .packing) x (λ _. x (l .k)) (l .inv .3) (write .write-next .ensures) given,
+      written-then (marksIn run) (ranked run .more) (s .args .packing) x (λ _. x (l .k)) (l .inv .3) (write .write-next .ensures) given,
     )
 
 same-length : tie.Need-same-length Inv-loop μ-loop
