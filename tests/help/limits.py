@@ -28,7 +28,7 @@ TABLE = ['theorems_limits/Samples', 'theorems_limits/Judged', 'theorems_limits/L
 DEFINITIONS = [
     'calendar/Calendar', 'section_1/Identification', 'section_3_geometry/Geometry', 'section_3_positions/Positions', 'section_3_lambert/Lambert',
     'section_3_lambert/Sheet', 'section_3/Section3', 'section_4/Product',
-    'section_5_groups/Groups', 'section_5/Representation', 'section_6/Presence', 'section_7_layout/Runs', 'section_7/Packing']
+    'section_5_groups/Groups', 'section_5/Representation', 'bits_ones/Ones', 'section_6/Presence', 'section_7_layout/Runs', 'section_7/Packing']
 # How many changes are tried in one check, and how many checks run at a time. A check that ends without a verdict is repeated with fewer.
 TOGETHER = 16
 JOBS = 2

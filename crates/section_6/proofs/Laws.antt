@@ -1,72 +1,26 @@
--- The laws of bits that are set: those of a stretch of bits are the ones of the number that it holds, and where section 6 is taken, the points
--- that it marks are as many as there are values.
-use mathlib.Core.Path.{_≡_, refl, sym, ap, _∙_, subst}
+-- What section 6 tells: where it is taken, the points that it marks are as many as there are values.
+use mathlib.Core.Path.{_≡_, refl, sym, _∙_, subst}
 use mathlib.Core.Bool.{Bool, true, false, cond}
 use mathlib.Core.List.{List}
-use Prim.Native.Nat.{ℕ, zero, suc, _+_, _*_, _≤_, _<_}
-use native.Mathlib.Nat.{add-zero, add-suc, lt-of-lt-of-le}
-use native.Mathlib.Numerals.{add-one}
+use Prim.Native.Nat.{ℕ, zero, suc, _≤_}
 use native.Mathlib.Omega.{arith}
-use lib.Count.{ones, ones-cat, ones-le}
 use lib.Dec.{eqb, ltb}
-use lib.ListN.{length, getD, length-take, length-drop}
+use lib.ListN.{length, length-take, length-drop}
 use borrow.Author.Tests.{eq-eqb, ne-eqb, eqb-true}
 use Rattle.octets.specs.declared.FilePlace.{FilePlace}
 use Rattle.octets.specs.Places.{at}
-use Rattle.octets.specs.Numbers.{numberAt}
 use Rattle.octets.proofs.Cases.{apart, split}
-use Rattle.octets.proofs.Laws.{number-fits, fits-eight}
 use Rattle.section.specs.Sections.{Lies, octet, lengthAt}
-use Rattle.bits.specs.Bits.{bitAt, bitsAt, octetsOf}
-use Rattle.bits.proofs.Laws.{bit-lt, bits-of-octets}
+use Rattle.bits.specs.Bits.{octetsOf}
+use Rattle.bits_ones.specs.Ones.{onesBefore}
+use Rattle.bits_ones.proofs.Laws.{ones-most}
 use Rattle.tiling_sections.specs.declared.Bitmap.{Bitmap}
 use Rattle.tiling_sections.specs.declared.Bitmap.the-variants as Bitmap
 use Rattle.section_6.specs.declared.Presence as declared
 use Rattle.section_6.specs.declared.Presence.the-variants as Presence
 use Rattle.section_6.specs.declared.Marked.{Marked}
 use Rattle.section_6.specs.declared.Marked.the-variants as Marked
-use Rattle.section_6.specs.Presence.{bitmapLength, bitmapIn, onesBefore, isBitmap, ownAt, earlierAt, allOf, withoutBitmap, presenceAt, presentBefore}
-
--- No more bits are set than there are.
-pub ones-most : (run : List ℕ) (n : ℕ) → onesBefore run n ≤ n
-unfolding onesBefore
-ones-most run zero = omega arith
-ones-most run (suc n) = omega (arith, ones-most run n, bit-lt run n)
-
--- One bit more.
-pub ones-more : (run : List ℕ) (n : ℕ) → onesBefore run (n + 1) ≡ onesBefore run n + bitAt run n
-unfolding onesBefore
-ones-more run n = rw (add-one n)
-
-ones-of-bit : (bit : ℕ) → bit < 2 → ones bit ≡ bit
-unfolding ones
-ones-of-bit zero h = refl
-ones-of-bit (suc zero) h = refl
-ones-of-bit (suc (suc bit)) h = absurd (omega arith)
-
--- The bits that are set among b bits are the ones of the number that these hold.
-pub ones-of-bits : (run : List ℕ) (at b : ℕ) → onesBefore run (at + b) ≡ onesBefore run at + ones (bitsAt run at b)
-unfolding onesBefore bitsAt ones
-ones-of-bits run at zero = rw (add-zero at) (omega arith)
-ones-of-bits run at (suc b) =
-    let bit : ℕ = bitAt run (at + b) in
-    let number : ℕ = bitsAt run at b in
-    let more : ones (number * 2 + bit) ≡ ones number + ones bit = ones-cat 1 number bit (bit-lt run (at + b)) in
-    rw (add-suc at b, more, ones-of-bit bit (bit-lt run (at + b)), ones-of-bits run at b) (omega arith)
-
--- One word of eight octets more.
-pub ones-of-word : (run : List ℕ) (i : ℕ) → ((k : ℕ) → getD run k 0 < 256) → onesBefore run (64 * (i + 1)) ≡ onesBefore run (64 * i) + ones (numberAt run (8 * i) 8)
-ones-of-word run i octets =
-    let next : 64 * (i + 1) ≡ 64 * i + 64 = omega arith in
-    let start : 64 * i ≡ 8 * i * 8 = omega arith in
-    ap (onesBefore run) next
-    ∙ ones-of-bits run (64 * i) 64
-    ∙ ap (λ (at : ℕ). onesBefore run (64 * i) + ones (bitsAt run at 64)) start
-    ∙ ap (λ (number : ℕ). onesBefore run (64 * i) + ones number) (bits-of-octets run (8 * i) 8 octets)
-
--- At most 64 bits of a word are set.
-pub ones-in-word : (run : List ℕ) (from : ℕ) → ((k : ℕ) → getD run k 0 < 256) → ones (numberAt run from 8) ≤ 64
-ones-in-word run from octets = ones-le 64 (numberAt run from 8) (lt-of-lt-of-le (number-fits run from 8 octets) (fits-eight 8 (omega arith)))
+use Rattle.section_6.specs.Presence.{bitmapLength, bitmapIn, isBitmap, ownAt, earlierAt, allOf, withoutBitmap, presenceAt, presentBefore}
 
 -- The section 6 at p has a bitmap for so many points, of which n are present.
 pub record Fitting (file : List ℕ) (p points n : ℕ) : Type 0 where

@@ -8,6 +8,7 @@ use lib.ListN.{take, drop}
 use Rattle.octets.specs.Places.{at, placeOf}
 use Rattle.section.specs.Sections.{Lies, octet, lengthAt}
 use Rattle.bits.specs.Bits.{bitAt, octetsOf}
+use Rattle.bits_ones.specs.Ones.{onesBefore}
 use Rattle.tiling_sections.specs.declared.Bitmap.{Bitmap}
 use Rattle.tiling_sections.specs.declared.Bitmap.the-variants as Bitmap
 use Rattle.section_6.specs.declared.Presence as declared
@@ -22,12 +23,8 @@ bitmapLength points = 6 + octetsOf points
 abbrev pub bitmapIn : List ℕ → ℕ → ℕ → List ℕ
 bitmapIn file p points = take (octetsOf points) (drop (placeOf p 7) file)
 
--- The bit of a point is the bitmap's bit of that number, the top bit first: 1 where the point is present. How many of the first n are:
-unfoldable pub onesBefore : List ℕ → ℕ → ℕ
-onesBefore run zero = 0
-onesBefore run (suc n) = onesBefore run n + bitAt run n
-
--- The section 6 at p has a bitmap for so many points, of which n are present.
+-- The section 6 at p has a bitmap for so many points, of which n are present. The bit of a point is the bitmap's bit of that number, the top bit
+-- first: 1 where the point is present.
 abbrev pub isBitmap : List ℕ → ℕ → ℕ → ℕ → Bool
 isBitmap file p points n = eqb (lengthAt file p) (bitmapLength points) && eqb (onesBefore (bitmapIn file p points) points) n
 

@@ -1,11 +1,8 @@
 // Section 6: which points of a field are present (RULES, "Section 6").
 ghost use mathlib.Core.Path.{_≡_};
-ghost use Prim.Native.Nat.{_*_, _^_, _≤_, _<_};
-ghost use lib.ListN.{length};
 ghost use Rattle.section.specs.Sections.{Lies, lengthAt};
 ghost use Rattle.tiling_sections.specs.Laid.{Stored};
-ghost use Rattle.section_6.specs.Presence.{HasBitmap, BitmapLies, bitmapIn, bitmapInForce, onesBefore, isBitmap, withoutBitmap, presenceAt};
-use octets::BitPlace;
+ghost use Rattle.section_6.specs.Presence.{HasBitmap, BitmapLies, bitmapIn, bitmapInForce, isBitmap, withoutBitmap, presenceAt};
 use octets::FilePlace;
 use octets::OctetNumber;
 use tiling_sections::Bitmap;
@@ -46,35 +43,6 @@ pub fn bitmap_in_force<'a>(file: &'a [u8], presence: Presence, points: u32) -> &
     }
 }
 
-// How many of the first 64 x `words` bits are set: a word at a time, for a bitmap is counted at every question about its field.
-fn ones_in_words(run: &[u8], words: usize) -> usize
-    requires { ⌜ (8 * words ≤ length (now run)) × (64 * words < 2 ^ 64) ⌝ }
-    ensures { λ r. ⌜ r ≡ onesBefore (now (run .entry)) (64 * words) ⌝ }
-{
-    let mut ones: usize = 0;
-    let mut i: usize = 0;
-    while i < words {
-        ones += u64::count_ones(bits::eight(run, 8 * i)) as usize;
-        i += 1;
-    }
-    ones
-}
-
-// How many of the first `n` bits are set.
-pub fn ones_before(run: &[u8], n: usize) -> usize
-    requires { ⌜ n ≤ 8 * length (now run) ⌝ }
-    ensures { λ r. ⌜ r ≡ onesBefore (now (run .entry)) n ⌝ }
-{
-    let words = n / 64;
-    let mut ones = ones_in_words(run, words);
-    let mut i = 64 * words;
-    while i < n {
-        ones += bits::bit_in(run, BitPlace(i)) as usize;
-        i += 1;
-    }
-    ones
-}
-
 // Has the section 6 at `section` a bitmap for so many points, of which `n` are present?
 fn is_bitmap(file: &[u8], section: FilePlace, points: u32, n: u32) -> bool
     requires { ⌜ Lies (now file) (section .0) ⌝ }
@@ -83,7 +51,7 @@ fn is_bitmap(file: &[u8], section: FilePlace, points: u32, n: u32) -> bool
     if section::length_of(file, section) as u64 != 6 + bits::octets_of(points as u64) {
         return false;
     }
-    ones_before(bitmap_in(file, section, points), points as usize) == n as usize
+    bits_ones::ones_before(bitmap_in(file, section, points), points as usize) == n as usize
 }
 
 // A section 6 without a bitmap: indicator 254 or 255.

@@ -9,6 +9,7 @@ use lib.Ieee.{ofBits}
 use Rattle.octets.specs.Numbers.{numberAt}
 use Rattle.laws_rows.specs.Rows.{row}
 use Rattle.bits.specs.Bits.{bitAt, bitsAt}
+use Rattle.bits_ones.specs.Ones.{onesBefore}
 use Rattle.calendar.specs.Calendar.{isLeap, monthLength, tomorrow, daysAfter}
 use Rattle.laws_machine.specs.Machine.{run, runFor}
 use Rattle.tiling_sections.specs.Walk.{sectionAt, startsAfter, bitmapAfter}
@@ -17,7 +18,7 @@ use Rattle.section_1.specs.Identification.{identificationAt}
 use Rattle.section_3.specs.Section3.{gridAt}
 use Rattle.section_4.specs.Product.{productDefinitionAt}
 use Rattle.section_5.specs.Representation.{representationAt}
-use Rattle.section_6.specs.Presence.{onesBefore, presentBefore, presenceAt}
+use Rattle.section_6.specs.Presence.{presentBefore, presenceAt}
 use Rattle.section_7.specs.Packing.{dataAt}
 use Rattle.section_3_geometry.specs.declared.DegreeGrid.{DegreeGrid}
 use Rattle.section_3_geometry.specs.declared.LambertGrid.{LambertGrid}

@@ -12,6 +12,7 @@ use Rattle.octets.specs.Numbers.{numberAt}
 use Rattle.refusals.specs.declared.Refusal.{Refusal}
 use Rattle.laws_rows.specs.Rows.{row}
 use Rattle.bits.specs.Bits.{bitAt, bitsAt}
+use Rattle.bits_ones.specs.Ones.{onesBefore}
 use Rattle.calendar.specs.Calendar.{isLeap, monthLength, tomorrow, daysAfter}
 use Rattle.doubles.specs.Doubles.{sumOf, scaledBy}
 use Rattle.laws_machine.specs.Machine.{run, runFor}
@@ -22,7 +23,7 @@ use Rattle.section_1.specs.Identification.{identificationAt}
 use Rattle.section_3.specs.Section3.{gridAt}
 use Rattle.section_4.specs.Product.{productDefinitionAt}
 use Rattle.section_5.specs.Representation.{representationAt}
-use Rattle.section_6.specs.Presence.{onesBefore, presentBefore, presenceAt}
+use Rattle.section_6.specs.Presence.{presentBefore, presenceAt}
 use Rattle.section_7.specs.Packing.{dataAt}
 use Rattle.values_integers.specs.Integers.{areInRange}
 use Rattle.question.specs.Describe.{describedAt}

@@ -3,12 +3,13 @@ use mathlib.Core.Path.{refl}
 use lib.Ieee.{ofBits}
 use Rattle.octets.specs.Numbers.{numberAt}
 use Rattle.bits.specs.Bits.{bitAt, bitsAt}
+use Rattle.bits_ones.specs.Ones.{onesBefore}
 use Rattle.calendar.specs.Calendar.{isLeap, monthLength, tomorrow, daysAfter}
 use Rattle.section_1.specs.Identification.{identificationAt}
 use Rattle.section_3.specs.Section3.{gridAt}
 use Rattle.section_4.specs.Product.{productDefinitionAt}
 use Rattle.section_5.specs.Representation.{representationAt}
-use Rattle.section_6.specs.Presence.{onesBefore, presentBefore, presenceAt}
+use Rattle.section_6.specs.Presence.{presentBefore, presenceAt}
 use Rattle.section_7.specs.Packing.{valuesBefore, bitsBefore, areSound, dataAt}
 use Rattle.theorems_limits.specs.Samples.{inOctets}
 use Rattle.theorems_limits.specs.Limits.{SectionLimits}

@@ -6,6 +6,7 @@ use Rattle.theorems_outcomes.proofs.Facts.{alike, one}
 use Rattle.octets.proofs as octets
 use Rattle.section.proofs as section
 use Rattle.bits.proofs as bits
+use Rattle.bits_ones.proofs as bits-ones
 use Rattle.bits_reader.proofs as bits-reader
 use Rattle.refusals.proofs as refusals
 use Rattle.calendar.proofs as calendar
@@ -79,6 +80,9 @@ bits-octets-of _ 𝓤 _ _ _ _ _ _ _ _ _ _ _ _ = one 𝓤 (λ p q. (alike p q, re
 
 pub bits-octets-of-run : Determined bits.octets_of_run.ended (λ _. bits.octets_of_run.clauses)
 bits-octets-of-run _ 𝓤 _ _ _ _ _ _ _ _ _ _ _ _ = one 𝓤 (λ p q. (alike p q, refl))
+
+pub bits-ones-ones-before : Determined bits-ones.ones_before.ended (λ _. bits-ones.ones_before.clauses)
+bits-ones-ones-before _ 𝓤 _ _ _ _ _ _ _ _ _ _ _ _ = one 𝓤 (λ p q. (alike p q, refl))
 
 -- A reader is a record of its run and its place: it is the very run that it was made of.
 pub bits-reader-new : Determined bits-reader.new.ended (λ _. bits-reader.new.clauses)

@@ -78,9 +78,6 @@ section-5-representation-at _ 𝓤 _ _ _ _ _ _ _ _ _ _ _ _ = one 𝓤 (λ p q. (
 pub section-6-bitmap-in-force : SeenDetermined section-6.bitmap_in_force.ended _ (λ _. now) (λ _. section-6.bitmap_in_force.clauses)
 section-6-bitmap-in-force _ 𝓤 _ _ _ _ _ _ _ _ _ _ _ _ = one 𝓤 (λ p q. (alike p q, refl))
 
-pub section-6-ones-before : Determined section-6.ones_before.ended (λ _. section-6.ones_before.clauses)
-section-6-ones-before _ 𝓤 _ _ _ _ _ _ _ _ _ _ _ _ = one 𝓤 (λ p q. (alike p q, refl))
-
 pub section-6-presence-at : Determined section-6.presence_at.ended (λ _. section-6.presence_at.clauses)
 section-6-presence-at _ 𝓤 _ _ _ _ _ _ _ _ _ _ _ _ = one 𝓤 (λ p q. (alike p q, refl))
 

@@ -6,10 +6,12 @@ use native.Mathlib.Numerals.{add-one}
 use native.Mathlib.Omega.{arith}
 use lib.ListN.{length}
 use Rattle.bits.proofs.Laws.{bit-lt}
+use Rattle.bits_ones.specs.Ones.{onesBefore}
+use Rattle.bits_ones.proofs.Laws.{ones-more}
 use Rattle.section_6.specs.declared.Presence as declared
 use Rattle.section_6.specs.declared.Presence.the-variants as Presence
-use Rattle.section_6.specs.Presence.{onesBefore, presentAt, presentBefore, bitmapInForce, BitmapLies}
-use Rattle.section_6.proofs.Laws.{ones-more, bitmap-length}
+use Rattle.section_6.specs.Presence.{presentAt, presentBefore, bitmapInForce, BitmapLies}
+use Rattle.section_6.proofs.Laws.{bitmap-length}
 use Rattle.values_points.specs.Written.{Marks, everyPoint, onesOf, marksIn, Covers}
 
 -- A point that is present is one more before the next, and a mark is 0 or 1.

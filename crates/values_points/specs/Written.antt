@@ -12,8 +12,8 @@ use denote.Ref.{RefT, now}
 use denote.Triple.Both.{Both}
 use Rattle.laws_rows.specs.Rows.{row, filled}
 use Rattle.bits.specs.Bits.{bitAt, bitsAt}
+use Rattle.bits_ones.specs.Ones.{onesBefore}
 use Rattle.doubles.specs.declared.Packing.{Packing}
-use Rattle.section_6.specs.Presence.{onesBefore}
 use Rattle.values_points.specs.Points.{doubleAt}
 
 -- Which points are present: `mark i` is 1 where point i is and 0 where it is missing, and `rank i` is how many before it are present.

@@ -1,22 +1,21 @@
--- `section_6::ones_in_words` meets its contract. The invariant: `ones` is how many bits of the first `i` words are set.
+-- `bits_ones::ones_in_words` meets its contract. The invariant: `ones` is how many bits are set between word `from` and word `i`.
 use mathlib.Core.Path.{_≡_, sym, ap, _∙_}
 use Prim.Native.Nat.{ℕ, _+_, _-_, _*_, _≤_}
 use native.Mathlib.Omega.{arith}
 use borrow.Author.Needs.{needs}
 use lib.Count.{ones}
-use Rattle.section_6.specs.Presence.{onesBefore}
-use Rattle.section_6.proofs.Laws.{ones-most, ones-of-word, ones-in-word}
-use Rattle.section_6.proofs.ones_in_words.Statement.{statement}
-use Rattle.section_6.proofs.ones_in_words.Tie as tie
+use Rattle.bits_ones.specs.Ones.{onesBefore}
+use Rattle.bits_ones.proofs.Laws.{ones-most, ones-of-word, ones-in-word}
+use Rattle.bits_ones.proofs.ones_in_words.Statement.{statement}
+use Rattle.bits_ones.proofs.ones_in_words.Tie as tie
 
 abbrev Inv-loop : tie.InvT-loop
-Inv-loop run words ones₀ i₀ ones i = (i ≤ words) × (ones ≡ onesBefore run (64 * i))
+Inv-loop run from end ones₀ i₀ ones i = (i ≤ end) × (onesBefore run (64 * from) + ones ≡ onesBefore run (64 * i))
 
 abbrev μ-loop : tie.MeasureT-loop
-μ-loop run words ones₀ i₀ ones i = words - i
+μ-loop run from end ones₀ i₀ ones i = end - i
 
 loop-holds : tie.Need-loop-holds Inv-loop μ-loop
-unfolding onesBefore
 loop-holds c = search needs
 
 mul-eight : tie.Need-mul-eight Inv-loop μ-loop
@@ -55,12 +54,12 @@ loop-less : tie.Need-loop-less Inv-loop μ-loop
 loop-less c = search needs
 
 loop-again : tie.Need-loop-again Inv-loop μ-loop
-loop-again c = (omega arith, ap (λ (before : ℕ). before + ones (c .eight .result)) (c .before .before .loop .inv .1) ∙ sym (word c))
+loop-again c = (omega arith, omega (arith, c .before .before .loop .inv .1, word c))
 
 returns : tie.Need-returns Inv-loop μ-loop
 returns c =
     let l = c .before in
-    let all : l .loop .i ≡ l .before .before .args .words = omega arith in
+    let all : l .loop .i ≡ l .before .before .args .end = omega arith in
     l .loop .inv .1 ∙ ap (λ (i : ℕ). onesBefore (l .before .before .args .run .now) (64 * i)) all
 
 pub ones-in-words-spec : {M : Type 1} → statement M
