@@ -7,6 +7,7 @@ use native.Mathlib.Nat.{add-mul, one-mul, mul-le-mul-right}
 use native.Mathlib.Numerals.{add-one}
 use native.Mathlib.Omega.{arith}
 use borrow.Author.Tests.{ltb-false}
+use lib.Bits.{bitOr}
 use lib.Dec.{ltb}
 use lib.ListN.{length, set}
 use Rattle.octets.proofs.Cases.{apart, split}
@@ -21,7 +22,7 @@ use Rattle.values_group.specs.declared.Worked as declaredWorked
 use Rattle.values_group.specs.declared.Worked.the-variants as Worked
 use Rattle.values_group.specs.Group.{mostX, workedBy, isKept, lastOf, integerFrom, Limits, Gains, wrapped, tested}
 use Rattle.values_group.proofs.Steps.{out-later}
-use Rattle.values_group.proofs.Wrapped.{Course, courseOf, testedBy, integerBy, worked-tested}
+use Rattle.values_group.proofs.Wrapped.{Course, courseOf, testedBy, integerBy, unlessSeen, one-seen, worked-tested}
 
 -- Behind k numbers this is kept, and the next number lies at bit `at`.
 pub record Reached (s : Course) (k at : ℕ) (w : declaredWorked.Worked) : Type 0 where
@@ -110,14 +111,17 @@ module _ {s : Course} where
       }
 
   module _ {at : ℕ} {taken : TakenFour} (four : FourTaken (s .run) at (s .width) taken) where
-    -- Four numbers more, of which the first two give `judged`, and the others `all` behind them.
-    pub four-reached : {k : ℕ} {w judged two all : declaredWorked.Worked} → Reached s k at w →
-        judged ≡ tested (taken .second) (s .gain) (tested (taken .first) (s .gain) w) → judged ≡ two →
-        all ≡ tested (taken .fourth) (s .gain) (tested (taken .third) (s .gain) two) → Reached s (k + 4) (taken .next .0) all
-    four-reached reached first same second =
-        let behind : declaredWorked.Worked → declaredWorked.Worked = λ v. tested (taken .fourth) (s .gain) (tested (taken .third) (s .gain) v) in
-        reached-as (one-reached (one-reached (one-reached (one-reached reached (four .first)) (four .second)) (third four)) (fourth four))
-        (omega arith) (omega (arith, four .next)) (ap behind (sym first ∙ same) ∙ sym second)
+    -- Four numbers more, whose integers are seen together.
+    pub four-seen : (seen x before : ℕ) {k one two three last : ℕ} → Reached s k at (unlessSeen seen x before) →
+        one ≡ wrapped (taken .first) (s .gain) x before → two ≡ wrapped (taken .second) (s .gain) one x →
+        three ≡ wrapped (taken .third) (s .gain) two one → last ≡ wrapped (taken .fourth) (s .gain) three two →
+        Reached s (k + 4) (taken .next .0) (unlessSeen (bitOr (bitOr (bitOr (bitOr seen one) two) three) last) last three)
+    four-seen seen x before {k} {one} {two} {three} {last} reached w1 w2 w3 w4 =
+        let r1 = reached-as (one-reached reached (four .first)) refl refl (sym (one-seen (taken .first) (s .gain) seen x before w1)) in
+        let r2 = reached-as (one-reached r1 (four .second)) refl refl (sym (one-seen (taken .second) (s .gain) (bitOr seen one) one x w2)) in
+        let r3 = reached-as (one-reached r2 (third four)) refl refl (sym (one-seen (taken .third) (s .gain) (bitOr (bitOr seen one) two) two one w3)) in
+        let r4 = reached-as (one-reached r3 (fourth four)) refl refl (sym (one-seen (taken .fourth) (s .gain) (bitOr (bitOr (bitOr seen one) two) three) three two w4)) in
+        reached-as r4 (omega arith) (omega (arith, four .next)) refl
 
     -- Four elements more, from the start of the block on.
     pub four-held : {x before : ℕ} {lent block : List ℕ} (i : ℕ) {one two three last e1 e2 e3 e4 : ℕ} → Held s (λ j. j) 0 i at x before lent block →

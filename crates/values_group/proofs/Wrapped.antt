@@ -1,12 +1,13 @@
 -- The integers of a group as the code works them out, in sums where 2 ^ 64 counts as 0. A loop holds what it adds to each packed number, but not the
 -- group that this is made of: here stands what it works out by that alone, and that it is what the group has.
 use mathlib.Core.Path.{_≡_, refl, sym, ap, _∙_}
-use mathlib.Core.Bool.{true}
+use mathlib.Core.Bool.{true, cond}
 use mathlib.Core.List.{List}
 use Prim.Native.Nat.{ℕ, zero, suc, _+_, _-_, _*_, _%_, _^_, _≤_, _<_}
 use native.Mathlib.Nat.{lt-of-lt-of-le}
 use native.Mathlib.Omega.{arith}
 use borrow.Author.Tests.{ltb-true, ltb-false, lt-ltb, le-ltb}
+use lib.Bits.{bitOr, or-add-and, and-le-l, and-le-r, or-lt}
 use lib.Dec.{ltb}
 use lib.Pow.{pow-mono}
 use Rattle.octets.proofs.Cases.{split}
@@ -40,6 +41,30 @@ tested-out {r} packed gain x before e h = rw (← e, lt-ltb mostX r h) refl
 
 pub tested-in : {r : ℕ} (packed gain x before : ℕ) → r ≡ wrapped packed gain x before → r ≤ mostX → Worked.Kept r x ≡ tested packed gain (Worked.Kept x before)
 tested-in {r} packed gain x before e h = rw (← e, le-ltb mostX r h) refl
+
+-- What is kept where all integers so far are seen together: nothing where one bit of them shows that one was out of its range.
+abbrev pub unlessSeen : (seen x before : ℕ) → declaredWorked.Worked
+unlessSeen seen x before = cond (ltb mostX seen) Worked.Out (Worked.Kept x before)
+
+-- Numbers are seen together by their bits: what is seen is no less than each, and has 31 bits where each has.
+seen-first : (seen r : ℕ) → seen ≤ bitOr seen r
+seen-first seen r = omega (arith, or-add-and seen r, and-le-r seen r)
+
+seen-last : (seen r : ℕ) → r ≤ bitOr seen r
+seen-last seen r = omega (arith, or-add-and seen r, and-le-l seen r)
+
+seen-small : (seen r : ℕ) → seen ≤ mostX → r ≤ mostX → bitOr seen r ≤ mostX
+seen-small seen r h k = omega (arith, or-lt 31 seen r (omega arith) (omega arith))
+
+-- One integer more is seen: that is as good as a test of its own.
+pub one-seen : {r : ℕ} (packed gain seen x before : ℕ) → r ≡ wrapped packed gain x before → unlessSeen (bitOr seen r) r x ≡ tested packed gain (unlessSeen seen x before)
+one-seen {r} packed gain seen x before e =
+    split (ltb mostX seen)
+    (λ out. rw (out, lt-ltb mostX (bitOr seen r) (omega (arith, ltb-true mostX seen out, seen-first seen r))) refl)
+    (λ inside.
+    split (ltb mostX r)
+    (λ large. rw (inside, lt-ltb mostX (bitOr seen r) (omega (arith, ltb-true mostX r large, seen-last seen r))) (tested-out packed gain x before e (ltb-true mostX r large)))
+    (λ small. rw (inside, le-ltb mostX (bitOr seen r) (seen-small seen r (ltb-false mostX seen inside) (ltb-false mostX r small))) (tested-in packed gain x before e (ltb-false mostX r small))))
 
 -- So one test judges the next integer.
 next-tested : (gain packed base lowered : ℕ) (w : declaredWorked.Worked) → packed < 2 ^ 32 → Gains gain base lowered → Ranged w →

@@ -76,20 +76,6 @@ fn judge_next(packed: u32, gain: u64, x: u64, before: u64) -> Worked
     }
 }
 
-// The integers that two packed numbers give, judged.
-fn judge_two(first: u32, second: u32, gain: u64, x: u64, before: u64) -> Worked
-    ensures { λ r. ⌜ r ≡ tested second gain (tested first gain (Worked.Kept x before)) ⌝ }
-{
-    let Worked::Kept {
-        x: one,
-        before: earlier,
-    } = judge_next(first, gain, x, before)
-    else {
-        return Worked::Out;
-    };
-    judge_next(second, gain, one, earlier)
-}
-
 // Works out the integers of the group one by one from number `from` on, behind the two latest, and stops at one that is out of its range.
 fn judge_each(section: &[u8], group: Group, from: u64, latest: u64, earlier: u64) -> Worked
     requires { ⌜ (Limits group latest earlier) × (from ≤ group .count) ⌝ }
@@ -119,7 +105,8 @@ fn judge_each(section: &[u8], group: Group, from: u64, latest: u64, earlier: u64
     Worked::Kept { x, before }
 }
 
-// Works out so many fours of its first integers, where eight octets are left behind each.
+// Works out so many fours of its first integers, where eight octets are left behind each. One test behind the last finds any that is out of its range: all bits that
+// were seen are kept together, and a loop without a way out is compiled as one piece.
 fn judge_fours(section: &[u8], group: Group, fours: u64, latest: u64, earlier: u64) -> Worked
     requires { ⌜ (Limits group latest earlier) × (Foured (length (now section)) (group .from .0) (group .width) (group .count) fours) ⌝ }
     ensures { λ r. ⌜ r ≡ workedBy (now (section .entry)) group (Worked.Kept latest earlier) (4 * fours) ⌝ }
@@ -129,27 +116,22 @@ fn judge_fours(section: &[u8], group: Group, fours: u64, latest: u64, earlier: u
     let mut at = group.from;
     let mut x = latest;
     let mut before = earlier;
+    let mut seen: u64 = 0;
     let mut done: u64 = 0;
     while done < fours {
         let taken = bits_reader::four_at(section, at, width);
-        let Worked::Kept {
-            x: two,
-            before: one,
-        } = judge_two(taken.first, taken.second, gain, x, before)
-        else {
-            return Worked::Out;
-        };
-        let Worked::Kept {
-            x: last,
-            before: three,
-        } = judge_two(taken.third, taken.fourth, gain, two, one)
-        else {
-            return Worked::Out;
-        };
-        before = three;
-        x = last;
+        let first = integer_behind(taken.first, gain, x, before);
+        let second = integer_behind(taken.second, gain, first, x);
+        let third = integer_behind(taken.third, gain, second, first);
+        let fourth = integer_behind(taken.fourth, gain, third, second);
+        seen = seen | first | second | third | fourth;
+        before = third;
+        x = fourth;
         at = taken.next;
         done += 1;
+    }
+    if 2147483647 < seen {
+        return Worked::Out;
     }
     Worked::Kept { x, before }
 }
