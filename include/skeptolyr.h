@@ -1,10 +1,11 @@
 /* Skeptolyr reads weather files in the format GRIB2 (FM 92 GRIB edition 2), as the Japan Meteorological Agency writes them. This is its manual.
  *
  * A file is an array of octets (bytes of 8 bits) in memory. It holds one message or several, a message holds one field or several, and a field is
- * one quantity, such as a temperature, at the points of a grid. There are five questions:
+ * one quantity, such as a temperature, at the points of a grid. There are six questions:
  *   - skeptolyr_check asks whether a file is whole, and how many messages and fields it has.
  *   - skeptolyr_describe asks what one field is: its quantity, times, level, grid and packing, and how much room its values need.
  *   - skeptolyr_decode asks for the values of one field.
+ *   - skeptolyr_point asks for the value of one point of a field, and makes no other.
  *   - skeptolyr_place asks where one point of a field lies, in degrees.
  *   - skeptolyr_sheet asks where one point of a field lies on the sheet of paper that a Lambert map is drawn on, in thousandths of a metre.
  *
@@ -38,8 +39,8 @@
  * No proof covers the program that calls these functions, so you must guarantee this:
  *   - `file` points to `file_len` octets that can be read, and nothing changes them during the call. A file that is mapped into memory must not
  *     become shorter during the call.
- *   - `values`, `presence`, `numbers`, `position` and `place` point to arrays with as many elements as their lengths say. They can be written, and nothing
- *     else reads or writes them during the call. The array `values` is aligned as doubles are, and `numbers`, `position` and `place` as int64_t is.
+ *   - `values`, `presence`, `value`, `numbers`, `position` and `place` point to arrays with as many elements as their lengths say. They can be written, and
+ *     nothing else reads or writes them during the call. `values` and `value` are aligned as doubles are, and `numbers`, `position` and `place` as int64_t is.
  *   - The file and the arrays do not overlap.
  *
  * A null pointer is allowed where its length is 0: nothing is read or written through it.
@@ -53,7 +54,7 @@
  * ---- What is proved
  *
  * Skeptolyr is written in Rattle, a language in which every function is proved to meet its contract, to touch only the memory that it is given, and
- * to end. Of the five questions it is proved, for every file and every call, that
+ * to end. Of the six questions it is proved, for every file and every call, that
  *   - a question is answered in full, or refused by the first refusal that applies, and a refused call changes nothing;
  *   - a file is accepted exactly when messages fill it and sections fill each message as the standard says, and the counts, the descriptions, the
  *     missing points and the packed integers are the standard's;
@@ -88,7 +89,7 @@ extern "C" {
 #endif
 
 /* The version of this header, and of the archive that was installed with it. CHANGELOG.md says what each of its numbers stands for. */
-#define SKEPTOLYR_VERSION "2.1.1"
+#define SKEPTOLYR_VERSION "2.2.0"
 
 /* The longest file that is read, in octets, and the most points that a field can have. */
 #define SKEPTOLYR_MOST_OCTETS 268435456
@@ -100,7 +101,7 @@ extern "C" {
 #define SKEPTOLYR_POSITION 2
 #define SKEPTOLYR_SHEET_PLACE 2
 
-/* ---- The five questions */
+/* ---- The six questions */
 
 /* Checks a file of one or more messages: do messages fill the file, and do sections fill each message, with no gap and in the order of the standard?
  *
@@ -150,6 +151,22 @@ uint64_t skeptolyr_describe(const uint8_t *file, size_t file_len, size_t k, int6
  */
 uint64_t skeptolyr_decode(const uint8_t *file, size_t file_len, size_t k, size_t start,
                           double *values, size_t values_len, uint8_t *presence, size_t presence_len);
+
+/* Tells the value of point `n` of field `k`, or that the point is missing. Points are counted from 0, along the rows of the grid.
+ *
+ * `value[0]` becomes the value, and the answer is 1. Where the point is missing, `value[0]` becomes 0 and the answer is 0. Where skeptolyr_decode answers, these
+ * are the very numbers that it writes to `values[start + n]` and to `presence[start + n]`, for every n.
+ *
+ * It is for the value under a pointer: of a field in simple packing it reads one packed number, and of one in complex packing it works out the integers up to
+ * the point's own, and none behind it. So a damaged field can still tell a point: where skeptolyr_decode refuses with 16, a point is told if the integers up to
+ * its own are in their range, and a missing point is missing in any case.
+ *
+ * Takes    the file, `k`, `n`, and an array of one element or more, as `&value, 1`. No check is needed before.
+ * Returns  1, or 0 where the point is missing; or a refusal from 1 to 14, 17 where the field has no point `n`, 15 where the array has no element, or 16 where
+ *          an integer up to the point's own is out of its range, which comes last.
+ * Never    changes an element after the first, or any element at all when it refuses; never writes an infinity, a NaN or -0.
+ */
+uint64_t skeptolyr_point(const uint8_t *file, size_t file_len, size_t k, size_t n, double *value, size_t value_len);
 
 /* Tells where point `n` of field `k` lies. Points are counted from 0, along the rows of the grid.
  *

@@ -69,7 +69,7 @@ module _ (file : List ℕ) (d : Description) (known : Known file d) where
   abbrev seven : ℕ
   seven = d .starts .seven .0
 
-  abbrev run : List ℕ
+  abbrev pub run : List ℕ
   run = octetsIn file seven
 
   abbrev points : ℕ
@@ -101,7 +101,7 @@ module _ (file : List ℕ) (d : Description) (known : Known file d) where
   pub packed-present : d .representation .n ≡ presentBefore file (d .presence) points points
   packed-present = marked-present file (located .0 .starts .six .0) (located .0 .bitmap) points (d .representation .n) (judged .ofSix)
 
-  packed-most : d .representation .n ≤ points
+  pub packed-most : d .representation .n ≤ points
   packed-most = marked-most file (located .0 .starts .six .0) (located .0 .bitmap) points (d .representation .n) (judged .ofSix)
 
   holds : dataAt file seven (d .representation) ≡ Packed.As (d .plan)

@@ -148,7 +148,7 @@ module _ (file : List ℕ) (k : ℕ) where
   describe-placed e = subst Placed e answer-placed
 
   -- The place of section 7 is one too.
-  seven-placed : {d : Description} → describe file k ≡ Described.As d → d .starts .seven .0 ≤ largest
+  pub seven-placed : {d : Description} → describe file k ≡ Described.As d → d .starts .seven .0 ≤ largest
   seven-placed h =
       let known = described file k h in
       let laid = described-laid file k (known .1) in

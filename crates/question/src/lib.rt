@@ -181,11 +181,14 @@ fn is_decodable(file: &[u8], description: Description) -> bool
 {
     let plan = description.plan;
     let starts = description.starts;
+    let representation = description.representation;
     match plan {
         Data::Simple => true,
-        Data::Complex(groups) => {
-            values_complex::is_in_range(section::octets_in(file, starts.seven), groups)
-        }
+        Data::Complex(groups) => values_complex::is_in_range(
+            section::octets_in(file, starts.seven),
+            groups,
+            representation.n as u64,
+        ),
     }
 }
 

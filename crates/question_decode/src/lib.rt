@@ -22,7 +22,7 @@ pub enum Decoded {
 }
 
 // The packing record of section 5's numbers.
-fn packing_of(representation: Representation) -> Packing
+pub fn packing_of(representation: Representation) -> Packing
     requires { ⌜ Scaled (representation .r) (representation .e) (representation .d) ⌝ }
     ensures { λ p. ⌜ p ≡ packingBy representation ⌝ }
 {

@@ -30,9 +30,9 @@ use Rattle.question_place.specs.declared.OnSheet.the-variants as OnSheet
 abbrev pub placeLength : ℕ
 placeLength = 2
 
--- A point is asked, for a run of this length: 17, where n is not below the point count, and 15 behind it.
-abbrev pub pointAsked : ℕ → ℕ → Grid → Asked
-pointAsked n room g = cond (leb (pointsOf g) n) (Asked.Refused (refusal Why.NoSuchPoint 0)) (cond (ltb room placeLength) (Asked.Refused (refusal Why.NoRoom 0)) Asked.Taken)
+-- A point is asked, of which so many numbers tell, for a run of this length: 17, where n is not below the point count, and 15 behind it.
+abbrev pub pointAsked : (n needed room : ℕ) → Grid → Asked
+pointAsked n needed room g = cond (leb (pointsOf g) n) (Asked.Refused (refusal Why.NoSuchPoint 0)) (cond (ltb room needed) (Asked.Refused (refusal Why.NoRoom 0)) Asked.Taken)
 
 -- Degrees are asked: 20 before them, where the grid is a Lambert grid.
 abbrev pub degreesIf : DegreeGrid → Asked → OnDegrees
@@ -40,7 +40,7 @@ degreesIf g Asked.Taken = OnDegrees.Grid g
 degreesIf g (Asked.Refused r) = OnDegrees.Refused r
 
 abbrev pub degreesAsked : ℕ → ℕ → Grid → OnDegrees
-degreesAsked n room (Grid.Degrees g) = degreesIf g (pointAsked n room (Grid.Degrees g))
+degreesAsked n room (Grid.Degrees g) = degreesIf g (pointAsked n placeLength room (Grid.Degrees g))
 degreesAsked n room (Grid.Lambert g) = OnDegrees.Refused (refusal Why.OtherGrid 0)
 
 abbrev pub degreesOf : ℕ → ℕ → Described → OnDegrees
@@ -57,7 +57,7 @@ lambertIf g (Asked.Refused r) = OnLambert.Refused r
 
 abbrev pub lambertAsked : ℕ → ℕ → Grid → OnLambert
 lambertAsked n room (Grid.Degrees g) = OnLambert.Refused (refusal Why.OtherGrid 0)
-lambertAsked n room (Grid.Lambert g) = lambertIf g (pointAsked n room (Grid.Lambert g))
+lambertAsked n room (Grid.Lambert g) = lambertIf g (pointAsked n placeLength room (Grid.Lambert g))
 
 abbrev pub lambertOf : ℕ → ℕ → Described → OnLambert
 lambertOf n room (Described.As d) = lambertAsked n room (d .grid)

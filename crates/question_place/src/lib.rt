@@ -52,15 +52,15 @@ fn refusal(why: Why) -> Refusal
     }
 }
 
-// A point of a grid is asked, for a run of this length: 17, and then 15.
-fn point_asked(grid: Grid, n: usize, room: usize) -> Asked
+// A point of a grid is asked, of which so many numbers tell, for a run of this length: 17, and then 15.
+pub fn point_asked(grid: Grid, n: usize, needed: usize, room: usize) -> Asked
     requires { ⌜ pointsOf grid ≤ 16777216 ⌝ }
-    ensures { λ r. ⌜ r ≡ pointAsked n room grid ⌝ }
+    ensures { λ r. ⌜ r ≡ pointAsked n needed room grid ⌝ }
 {
     if section_3_geometry::points_of(grid) as usize <= n {
         return Asked::Refused(refusal(Why::NoSuchPoint));
     }
-    if room < 2 {
+    if room < needed {
         return Asked::Refused(refusal(Why::NoRoom));
     }
     Asked::Taken
@@ -74,7 +74,7 @@ fn degrees_asked(grid: Grid, n: usize, room: usize) -> OnDegrees
     let Grid::Degrees(degrees) = grid else {
         return OnDegrees::Refused(refusal(Why::OtherGrid));
     };
-    match point_asked(grid, n, room) {
+    match point_asked(grid, n, 2, room) {
         Asked::Taken => OnDegrees::Grid(degrees),
         Asked::Refused(refused) => OnDegrees::Refused(refused),
     }
@@ -88,7 +88,7 @@ fn lambert_asked(grid: Grid, n: usize, room: usize) -> OnLambert
     let Grid::Lambert(lambert) = grid else {
         return OnLambert::Refused(refusal(Why::OtherGrid));
     };
-    match point_asked(grid, n, room) {
+    match point_asked(grid, n, 2, room) {
         Asked::Taken => OnLambert::Grid(lambert),
         Asked::Refused(refused) => OnLambert::Refused(refused),
     }

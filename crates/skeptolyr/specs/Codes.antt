@@ -1,8 +1,10 @@
 -- RULES, "What C is given": the one number that answers C. The counts of check share it, 32 bits each, messages on top; the top bit
 -- says that it is a refusal.
 use Prim.Native.Nat.{ℕ, _+_, _*_, _^_}
-use mathlib.Core.List.{List}
-use lib.IntN.{ℤ}
+use mathlib.Core.Bool.{false}
+use mathlib.Core.List.{List, [], _∷_}
+use lib.IntN.{ℤ, pos}
+use lib.Ieee.{Float, fin}
 use lib.ListN.{length}
 use Rattle.laws_rows.specs.Rows.{laid}
 use Rattle.refusals.specs.declared.Refusal.{Refusal}
@@ -19,6 +21,8 @@ use Rattle.question_place.specs.declared.OnDegrees.the-variants as OnDegrees
 use Rattle.question_place.specs.declared.OnLambert.{OnLambert}
 use Rattle.question_place.specs.declared.OnLambert.the-variants as OnLambert
 use Rattle.question_place.specs.Place.{onDegrees, onLambert}
+use Rattle.question_point.specs.declared.Pointed.{Pointed}
+use Rattle.question_point.specs.declared.Pointed.the-variants as Pointed
 use Rattle.question_numbers.specs.Numbers.{positionNumbers, sheetNumbers, numbersOf}
 use Rattle.question_decode.specs.declared.Decoded.{Decoded}
 use Rattle.question_decode.specs.declared.Decoded.the-variants as Decoded
@@ -31,6 +35,17 @@ checkCode (Checked.Refused r) = codeOf r
 abbrev pub decodeCode : Decoded → ℕ
 decodeCode (Decoded.Points points) = points
 decodeCode (Decoded.Refused r) = codeOf r
+
+-- Point answers with 1, or with 0 where the point is missing. The value stands in the run's first element then, or +0, as decode has it; all else stays as it was.
+abbrev pub pointCode : Pointed → ℕ
+pointCode (Pointed.Value v) = 1
+pointCode Pointed.Missing = 0
+pointCode (Pointed.Refused r) = codeOf r
+
+abbrev pub pointLeft : List Float → Pointed → List Float
+pointLeft run (Pointed.Value v) = laid run 0 (v ∷ [])
+pointLeft run Pointed.Missing = laid run 0 (fin false 0 (pos 0) ∷ [])
+pointLeft run (Pointed.Refused r) = run
 
 -- Describe, place and sheet are answered in numbers, or refused.
 pub data Answer : Type 0 where

@@ -3,11 +3,13 @@ ghost use mathlib.Core.Path.{_≡_};
 ghost use lib.ListN.{length};
 ghost use Rattle.tiling.specs.Tiling.{check};
 ghost use Rattle.question_decode.specs.Decoding.{answer, valuesLeft, presenceLeft};
-ghost use Rattle.skeptolyr.specs.Codes.{checkCode, decodeCode, numbersCode, numbersLeft, describedFor, placedFor, sheetFor};
+ghost use Rattle.question_point.specs.Point.{pointInto};
+ghost use Rattle.skeptolyr.specs.Codes.{checkCode, decodeCode, pointCode, pointLeft, numbersCode, numbersLeft, describedFor, placedFor, sheetFor};
 use question::Described;
 use question_decode::Decoded;
 use question_place::OnDegrees;
 use question_place::OnLambert;
+use question_point::Pointed;
 use tiling::Checked;
 
 // Checks a file: messages x 2^32 + fields, or 2^63 + number x 2^32 + place.
@@ -81,5 +83,25 @@ pub extern "C" fn skeptolyr_sheet(file: &[u8], k: usize, n: usize, place: &mut [
             question_numbers::put_sheet(place, lies) as u64
         }
         OnLambert::Refused(refusal) => refusals::code_of(refusal),
+    }
+}
+
+// Tells the value of point `n` of field `k`: puts it into the run's first element and answers 1, or puts +0 there and answers 0 where the point is missing, or
+// answers 2^63 + number x 2^32 + place.
+#[no_mangle]
+pub extern "C" fn skeptolyr_point(file: &[u8], k: usize, n: usize, value: &mut [f64]) -> u64
+    ensures { λ r. ⌜ r ≡ pointCode (pointInto (now (file .entry)) k n (length (now (value .entry)))) ⌝ }
+    ensures { λ _. ⌜ now (value .exit) ≡ pointLeft (now (value .entry)) (pointInto (now (file .entry)) k n (length (now (value .entry)))) ⌝ }
+{
+    match question_point::point_into(file, k, n, value.len()) {
+        Pointed::Value(double) => {
+            value[0] = double;
+            1
+        }
+        Pointed::Missing => {
+            value[0] = 0.0;
+            0
+        }
+        Pointed::Refused(refusal) => refusals::code_of(refusal),
     }
 }

@@ -1,13 +1,15 @@
 -- The proof of what is promised to those who call the reader: their contracts cite what the demands speak of, and the one number tells it.
 use Prim.Native.Nat.{ℕ, zero, suc, _+_, _*_, _^_, _≤_, _<_}
-use mathlib.Core.Path.{_≡_, refl, sym, ap, subst}
+use mathlib.Core.Path.{_≡_, refl, sym, ap, subst, _∙_}
+use mathlib.Core.Bool.{false}
 use mathlib.Core.List.{List}
 use native.Mathlib.Nat.{zero-add}
 use native.Mathlib.Omega.{arith}
-use borrow.Author.Tests.{ltb-true, ltb-false}
-use lib.Dec.{ltb}
+use borrow.Author.Tests.{ltb-true, ltb-false, eqb-true, eqb-false}
+use lib.Dec.{eqb, ltb}
 use lib.ListN.{length}
 use lib.IntN.{ℤ, pos, negsuc}
+use lib.Ieee.{Float, fin}
 use Rattle.octets.proofs.Cases.{apart, split}
 use Rattle.refusals.specs.declared.Refusal.{Refusal}
 use Rattle.refusals.specs.Refusals.{numberOf, codeOf}
@@ -16,6 +18,7 @@ use Rattle.tiling.specs.declared.Checked as declaredChecked
 use Rattle.tiling.specs.declared.Checked.the-variants as Checked
 use Rattle.tiling.specs.Tiling as Tiling
 use Rattle.tiling.proofs.Bounds.{Small, check-bounded}
+use Rattle.question.specs.declared.Description.{Description}
 use Rattle.question.specs.declared.Described as declaredDescribed
 use Rattle.question.specs.declared.Described.the-variants as Described
 use Rattle.question.specs.Describe as Describe
@@ -25,6 +28,7 @@ use Rattle.question_decode.proofs.Laws.{Small as DecodedSmall, decode-small}
 use Rattle.question.specs.Judge.{Asks, descriptionLength, judge}
 use Rattle.section_3_geometry.specs.declared.Grid.{Grid}
 use Rattle.section_3_geometry.specs.declared.Grid.the-variants as Grid
+use Rattle.section_3_geometry.specs.Geometry.{pointsOf}
 use Rattle.section_3_positions.specs.Quotients.{positionOf}
 use Rattle.section_3_positions.proofs.Laws.{position-lies}
 use Rattle.question.proofs.Laws.{judge-placed, judged-numbers}
@@ -34,18 +38,25 @@ use Rattle.question_place.specs.declared.OnLambert.{OnLambert}
 use Rattle.question_place.specs.declared.OnLambert.the-variants as OnLambert
 use Rattle.question_place.specs.Place.{onDegrees, onLambert}
 use Rattle.question_place.proofs.Laws.{judged-degrees, judged-lambert, degrees-placed, lambert-placed}
+use Rattle.question_decode.specs.Decoding.{presentOf}
+use Rattle.question_point.specs.declared.Pointed.{Pointed}
+use Rattle.question_point.specs.declared.Pointed.the-variants as Pointed
+use Rattle.question_point.specs.Point as Single
+use Rattle.question_point.proofs.Laws.{Answerable, point-answerable, Told, answered-point}
 use Rattle.question_numbers.specs.Numbers.{numbersOf}
 use Rattle.question_numbers.proofs.Laws.{description-length}
-use Rattle.skeptolyr.specs.Codes.{checkCode, decodeCode, numbersCode, numbersLeft, describedAs, placedAs, sheetAs, describedFor, placedFor, sheetFor}
+use Rattle.skeptolyr.specs.Codes.{checkCode, decodeCode, pointCode, pointLeft, numbersCode, numbersLeft, describedAs, placedAs, sheetAs, describedFor, placedFor, sheetFor}
 use Rattle.listing_file.specs.declared.Printout.{Printout}
 use Rattle.listing_file.specs.Listing.{mostOctets, lineOf, linesOf, checkedText, listingOf, Prints}
-use Rattle.theorems_demands.specs.Questions.{Question, verdict, refusedBy, ofChecked, ofDescribed, ofDegrees, ofLambert, ofDecoded, check, describe, describeInto, placeInto, sheetInto}
-use Rattle.theorems_demands.specs.Demand2.{BothRuns, Call, HasPoint, answerTo, leftBehind}
+use Rattle.theorems_demands.specs.Questions.{Question, verdict, refusedBy, ofChecked, ofDescribed, ofDegrees, ofLambert, ofDecoded, ofPointed, check, describe, describeInto, placeInto, sheetInto, pointInto}
+use Rattle.theorems_demands.specs.Alone.{Alone, Agrees, both-present, both-missing}
+use Rattle.theorems_demands.specs.Demand2.{BothRuns, valueIn, markIn, Call, HasPoint, answerTo, leftBehind}
+use Rattle.theorems_demands.proofs.Alone.{one-or-zero}
 use Rattle.theorems_demands.proofs.Demand1.{demand-1}
 use Rattle.theorems_demands.proofs.Demand2.{demand-2}
 use Rattle.theorems_demands.proofs.Demand3.{demand-3}
 use Rattle.theorems_outcomes.proofs.Facts.{from-one, from-two, from-three}
-use Rattle.theorems_calls.specs.Calls.{Refuses, Checks, decodeOf, runsOf, callOf, DecodeKeeps, DescribeKeeps, OnGrid, PlaceKeeps, SheetKeeps, Line, Lines, Listed, ListingPrints, Calls, RattleCalls}
+use Rattle.theorems_calls.specs.Calls.{Refuses, Checks, decodeOf, runsOf, callOf, DecodeKeeps, DescribeKeeps, OnGrid, PlaceKeeps, SheetKeeps, PointKeeps, Line, Lines, Listed, ListingPrints, Calls, RattleCalls}
 use Rattle.theorems_calls.specs.Calls as Spec
 
 -- A description has few numbers.
@@ -167,6 +178,88 @@ module _ (file : List ℕ) where
             placed = λ below. absurd (omega (arith, below));
           }
 
+  -- A field is described in one way.
+  one-field : (k n : ℕ) {g : Grid} (at : OnGrid file k n g) → Describe.describe file k ≡ Described.As (at .d)
+  one-field k n at = demand-2 file .describes k (at .d) .1 (at .l, at .lies, at .judged)
+
+  one-description : {d e : Description} → Described.As d ≡ Described.As e → d ≡ e
+  one-description same = cc
+
+  -- A point that is told alone: it is there, by its mark and its double, and where decode answers it has the same.
+  module _ (k n : ℕ) {a : Pointed} (told : Told file k n a) where
+    its-grid : OnGrid file k n (told .d .grid)
+    its-grid = on-grid k n (record { d = told .d; describes = told .describes; grid = refl; below = told .below })
+
+    its-own : Alone file (told .d) n a
+    its-own = subst (Alone file (told .d) n) (told .alone) (demand-2 file .alone k n (told .d) (told .describes) (told .below))
+
+    its-agreement : (c : Call) (points : ℕ) → c .k ≡ k → answerTo file c ≡ Decoded.Points points → Agrees a (valueIn (leftBehind file c) (c .start + n)) (markIn (leftBehind file c) (c .start + n))
+    its-agreement c points same said =
+        let decoded = demand-2 file .decodes c points said in
+        let found = demand-2 file .describes (c .k) (decoded .0) .1 (decoded .1 .describes) in
+        let d : decoded .0 ≡ told .d = one-description (sym found ∙ ap (Describe.describe file) same ∙ told .describes) in
+        let inside : n < points = subst (λ (m : ℕ). n < m) (sym (ap (λ (e : Description). pointsOf (e .grid)) d) ∙ decoded .2) (told .below) in
+        subst (λ (b : Pointed). Agrees b (valueIn (leftBehind file c) (c .start + n)) (markIn (leftBehind file c) (c .start + n)))
+        (ap (λ (j : ℕ). Single.point file j n) same ∙ told .alone) (demand-2 file .agree c points n said inside)
+
+  agreed-value : {a : Pointed} {v w : Float} {m : ℕ} → Agrees a w m → a ≡ Pointed.Value v → (w ≡ v) × (m ≡ 1)
+  agreed-value both-present e = (cc, refl)
+  agreed-value both-missing e = apart cc
+
+  agreed-missing : {a : Pointed} {w : Float} {m : ℕ} → Agrees a w m → a ≡ Pointed.Missing → (w ≡ fin false 0 (pos 0)) × (m ≡ 0)
+  agreed-missing both-present e = apart cc
+  agreed-missing both-missing e = (refl, refl)
+
+  -- A point is present or missing, and one that has a value is present.
+  value-present : (k n : ℕ) {v : Float} (told : Told file k n (Pointed.Value v)) → presentOf file (told .d) n ≡ 1
+  value-present k n {v} told =
+      split (eqb (presentOf file (told .d) n) 0)
+      (λ none. let other = its-own k n told .missing .1 (eqb-true (presentOf file (told .d) n) 0 none) in apart cc)
+      (λ some. omega (arith, eqb-false (presentOf file (told .d) n) 0 some, one-or-zero file (told .d .presence) (pointsOf (told .d .grid)) n))
+
+  points-so : (k n : ℕ) (before : List Float) → PointKeeps file k n before (pointCode (Single.pointInto file k n (length before))) (pointLeft before (Single.pointInto file k n (length before)))
+  unfolding its-grid on-grid
+  points-so k n before = by (Single.pointInto file k n (length before)) refl
+    where
+      by : (a : Pointed) → Single.pointInto file k n (length before) ≡ a → PointKeeps file k n before (pointCode a) (pointLeft before a)
+      by (Pointed.Value v) said =
+          let told = answered-point file k n (length before) (Pointed.Value v) said tt in
+          let one = value-present k n told in
+          record {
+            refused = λ top. absurd (omega (arith, top));
+            answered = λ _. demand-1 file .answers (pointInto k n (length before)) .0 (ap ofPointed said);
+            told =
+                λ _. (
+                  told .d .grid,
+                  its-grid k n told,
+                  record { marked = sym one; oneOrZero = omega arith; missing = λ e. absurd (omega arith); present = λ _. its-own k n told .value v refl },
+                  refl,
+                );
+            near =
+                λ _ g at x standard.
+                demand-3 file .nearAlone k n x (at .d) v (one-field k n at) (subst (λ (h : Grid). n < pointsOf h) (sym (at .grid)) (at .below)) (told .alone) standard;
+            alike = λ _ c points same decoded. agreed-value (its-agreement k n told c points same decoded) refl;
+          }
+      by Pointed.Missing said =
+          let told = answered-point file k n (length before) Pointed.Missing said tt in
+          let none = its-own k n told .missing .0 refl in
+          record {
+            refused = λ top. absurd (omega (arith, top));
+            answered = λ _. demand-1 file .answers (pointInto k n (length before)) .0 (ap ofPointed said);
+            told = λ _. (told .d .grid, its-grid k n told, record { marked = sym none; oneOrZero = omega arith; missing = λ _. refl; present = λ e. absurd (omega arith) }, refl);
+            near = λ e. absurd (omega arith);
+            alike = λ _ c points same decoded. agreed-missing (its-agreement k n told c points same decoded) refl;
+          }
+      by (Pointed.Refused r) said =
+          let small : Answerable (length before) (Pointed.Refused r) = subst (Answerable (length before)) said (point-answerable file k n (length before)) in
+          record {
+            refused = λ _. (refuses-so (pointInto k n (length before)) r (ap ofPointed said) (omega (arith, small)), refl);
+            answered = λ below. absurd (omega (arith, below));
+            told = λ below. absurd (omega (arith, below));
+            near = λ e. absurd (omega (arith, e));
+            alike = λ below. absurd (omega (arith, below));
+          }
+
   line-so : (k : ℕ) → Line file k (lineOf file k)
   unfolding lineOf
   line-so k = by (Describe.describe file k) refl
@@ -207,7 +300,7 @@ prints-so run got (negsuc m) before after p h =
     }
 
 -- What is kept of a number and of a run is kept of those that are known to be these.
-told-by : (Keeps : ℕ → List ℤ → Type 0) {code answer : ℕ} {run left : List ℤ} → answer ≡ code → left ≡ run → Keeps code run → Keeps answer left
+told-by : {A : Type 0} (Keeps : ℕ → List A → Type 0) {code answer : ℕ} {run left : List A} → answer ≡ code → left ≡ run → Keeps code run → Keeps answer left
 told-by Keeps {code} {answer} {run} {left} e l kept = subst (λ (n : ℕ). Keeps n left) (sym e) (subst (Keeps code) (sym l) kept)
 
 pub calls : Calls
@@ -230,6 +323,12 @@ calls =
           (λ e left.
           told-by (SheetKeeps (given .0 .now) (given .1 .0) (given .1 .1 .0) (given .1 .1 .1 .0 .now)) e left
           (sheets-so (given .0 .now) (given .1 .0) (given .1 .1 .0) (given .1 .1 .1 .0 .now)));
+      point =
+          λ _ 𝓤 _ _ _ _ _ given _ answer lasts.
+          from-two 𝓤
+          (λ e left.
+          told-by (PointKeeps (given .0 .now) (given .1 .0) (given .1 .1 .0) (given .1 .1 .1 .0 .now)) e left
+          (points-so (given .0 .now) (given .1 .0) (given .1 .1 .0) (given .1 .1 .1 .0 .now)));
       decode =
           λ _ 𝓤 _ _ _ _ _ given _ answer lasts.
           from-three 𝓤
@@ -246,6 +345,7 @@ rattle-calls =
       describe = λ _ 𝓤 _ _ _ _ _ _ _ _ _. from-one 𝓤 (λ e. e);
       place = λ _ 𝓤 _ _ _ _ _ _ _ _ _. from-one 𝓤 (λ e. e);
       sheet = λ _ 𝓤 _ _ _ _ _ _ _ _ _. from-one 𝓤 (λ e. e);
+      point = λ _ 𝓤 _ _ _ _ _ _ _ _ _. from-one 𝓤 (λ e. e);
       decode = λ _ 𝓤 _ _ _ _ _ _ _ _ _. from-three 𝓤 (λ e v p. (e, λ i. record { values = v i; presence = p i }));
       rebuild = λ _ 𝓤 _ _ _ _ _ _ _ _ _. from-one 𝓤 (λ e. e);
     }

@@ -2,9 +2,9 @@
 -- runs that they leave, and what the listing puts.
 use Prim.Native.Nat.{ℕ, suc, _+_, _*_, _^_, _≤_, _<_}
 use mathlib.Core.Path.{_≡_}
-use mathlib.Core.List.{List, [], _++_}
-use lib.Ieee.{Float}
-use lib.ListN.{length}
+use mathlib.Core.List.{List, [], _∷_, _++_}
+use lib.Ieee.{Float, nan}
+use lib.ListN.{length, getD}
 use lib.IntN.{ℤ, pos, negsuc}
 use Rattle.tiling_sections.specs.declared.Located.{Located}
 use Rattle.theorems_grammar.specs.Grammar.{Accepted}
@@ -17,17 +17,20 @@ use Rattle.section_3_geometry.specs.Geometry.{pointsOf}
 use Rattle.section_3_positions.specs.Positions.{LiesAt}
 use Rattle.section_3_lambert.specs.Sheet.{sheetOf}
 use Rattle.question.specs.declared.Description.{Description}
+use Rattle.question.specs.Judge.{integerOf}
 use Rattle.question.specs.Judged.{Judged}
-use Rattle.laws_rows.specs.Rows.{Puts}
+use Rattle.question_decode.specs.declared.Decoded.the-variants as Decoded
+use Rattle.question_decode.specs.Decoding.{rankOf}
+use Rattle.laws_rows.specs.Rows.{laid, Puts}
 use Rattle.text.specs.Text.{ascii, decimal}
 use Rattle.listing_lines.specs.Lines.{fieldText}
 use Rattle.listing_file.specs.declared.Printout.{Printout}
 use Rattle.listing_file.specs.Listing.{ReadFrom, unreadableText}
 use Rattle.question_numbers.specs.Numbers.{positionNumbers, sheetNumbers, numbersOf}
-use Rattle.theorems_demands.specs.Questions.{Question, check, describe, decode, describeInto, placeInto, sheetInto}
+use Rattle.theorems_demands.specs.Questions.{Question, check, describe, decode, describeInto, placeInto, sheetInto, pointInto}
 use Rattle.theorems_demands.specs.Demand1.{FieldAt, Applies, First}
-use Rattle.theorems_demands.specs.Demand2.{BothRuns, Call, Decodes, answerTo, leftBehind}
-use Rattle.theorems_demands.specs.Demand3.{AllNear}
+use Rattle.theorems_demands.specs.Demand2.{Point, BothRuns, valueIn, markIn, Call, Decodes, answerTo, leftBehind}
+use Rattle.theorems_demands.specs.Demand3.{RebuiltNear, AllNear}
 use Rattle.theorems_calls.specs.Promises.{Promises}
 use Rattle.tiling.specs.Tiling as Tiling
 use Rattle.tiling.proofs as tiling
@@ -36,6 +39,8 @@ use Rattle.question.proofs as question
 use Rattle.question_place.specs.Place as Place
 use Rattle.question_place.proofs as question-place
 use Rattle.question_decode.proofs as question-decode
+use Rattle.question_point.specs.Point as Single
+use Rattle.question_point.proofs as question-point
 use Rattle.doubles.specs.Doubles.{rebuildOne}
 use Rattle.doubles.proofs as doubles
 use Rattle.skeptolyr.proofs as skeptolyr
@@ -106,6 +111,19 @@ pub record SheetKeeps (file : List ℕ) (k n : ℕ) (before : List ℤ) (code : 
   -- Demand 2: field k is on a Lambert grid and has the point, and so far to the right and down it lies.
   pub placed : code < 2 ^ 63 → (g : LambertGrid) × OnGrid file k n (Grid.Lambert g) × Puts before 0 (sheetNumbers (sheetOf g n)) left code
 
+-- What a call of skeptolyr_point has answered, and the run that it has left.
+pub record PointKeeps (file : List ℕ) (k n : ℕ) (before : List Float) (code : ℕ) (left : List Float) : Type 0 where
+  pub refused : 2 ^ 63 ≤ code → Refuses file (pointInto k n (length before)) code × (left ≡ before)
+  pub answered : code < 2 ^ 63 → (number place : ℕ) → Applies file (pointInto k n (length before)) number place → ⊥
+  -- Demand 2: field k has the point, the answer is its mark, and the first element is its double; all else is as it was.
+  pub told : code < 2 ^ 63 → (g : Grid) × (at : OnGrid file k n g) × Point file (at .d) n (getD left 0 nan) code × (left ≡ laid before 0 (getD left 0 nan ∷ []))
+  -- Demand 3: how near the double is.
+  pub near : code ≡ 1 → (g : Grid) (at : OnGrid file k n g) (x : ℕ) → integerOf file (at .d) (rankOf file (at .d) n) ≡ pos x → RebuiltNear (at .d) x (getD left 0 nan)
+  -- Where decode answers, these are the two elements that it writes for the point.
+  pub alike :
+      code < 2 ^ 63 → (c : Call) (points : ℕ) → c .k ≡ k → answerTo file c ≡ Decoded.Points points →
+      (valueIn (leftBehind file c) (c .start + n) ≡ getD left 0 nan) × (markIn (leftBehind file c) (c .start + n) ≡ code)
+
 -- RULES, "Listing": how a refusal is told, and the line of field k.
 abbrev pub toldAs : ℕ → ℕ → List ℕ
 toldAs number place = ascii "refused " ++ decimal number ++ ascii " at " ++ decimal place
@@ -144,7 +162,7 @@ abbrev pub callOf : ℕ → ℕ → BothRuns → Call
 callOf k start before = record { k = k; start = start; before = before }
 
 -- The promises, of the contracts that the checker proves of the functions. What is given are their parameters in order: of describe file, k and the run; of
--- place and sheet file, k, n and the run; of decode file, k, start, values and presence; of list the text and the input; of print the text, the run that was read
+-- place, sheet and point file, k, n and the run; of decode file, k, start, values and presence; of list the text and the input; of print the text, the run that was read
 -- into, and the two answers of reading.
 pub record Calls : Type 2 where
   pub check : Promises skeptolyr.skeptolyr_check.ended (λ _. skeptolyr.skeptolyr_check.clauses) (λ _ given answer _. Checks (given .0 .now) answer)
@@ -157,6 +175,9 @@ pub record Calls : Type 2 where
   pub sheet :
       Promises skeptolyr.skeptolyr_sheet.ended (λ _. skeptolyr.skeptolyr_sheet.clauses)
       (λ _ given answer lasts. SheetKeeps (given .0 .now) (given .1 .0) (given .1 .1 .0) (given .1 .1 .1 .0 .now) answer (lasts .1 .1 .1 .0))
+  pub point :
+      Promises skeptolyr.skeptolyr_point.ended (λ _. skeptolyr.skeptolyr_point.clauses)
+      (λ _ given answer lasts. PointKeeps (given .0 .now) (given .1 .0) (given .1 .1 .0) (given .1 .1 .1 .0 .now) answer (lasts .1 .1 .1 .0))
   pub decode :
       Promises skeptolyr.skeptolyr_decode.ended (λ _. skeptolyr.skeptolyr_decode.clauses)
       (λ _ given answer lasts.
@@ -175,6 +196,7 @@ pub record RattleCalls : Type 2 where
   pub describe : Promises question.describe.ended (λ _. question.describe.clauses) (λ _ given answer _. answer ≡ Describe.describe (given .0 .now) (given .1 .0))
   pub place : Promises question-place.place.ended (λ _. question-place.place.clauses) (λ _ given answer _. answer ≡ Place.place (given .0 .now) (given .1 .0) (given .1 .1 .0))
   pub sheet : Promises question-place.sheet.ended (λ _. question-place.sheet.clauses) (λ _ given answer _. answer ≡ Place.sheet (given .0 .now) (given .1 .0) (given .1 .1 .0))
+  pub point : Promises question-point.point.ended (λ _. question-point.point.clauses) (λ _ given answer _. answer ≡ Single.point (given .0 .now) (given .1 .0) (given .1 .1 .0))
   pub decode :
       Promises question-decode.decode.ended (λ _. question-decode.decode.clauses)
       (λ _ given answer lasts.

@@ -2,3 +2,4 @@
 pub mod Promises
 pub mod Calls
 pub mod Impostors
+pub mod PointImpostors

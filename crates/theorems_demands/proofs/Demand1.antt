@@ -1,14 +1,14 @@
 -- The proof of demand 1. A refusal that applies is caught: the question is refused by it, or by one that comes before it. And a question is refused only by
 -- a refusal that applies.
-use Prim.Native.Nat.{ℕ, _+_, _≤_, _<_}
+use Prim.Native.Nat.{ℕ, suc, _+_, _≤_, _<_}
 use mathlib.Core.Path.{_≡_, refl, sym, ap, subst, _∙_}
 use mathlib.Core.Bool.{false, true}
 use mathlib.Core.List.{List}
 use mathlib.Core.Logic.{_⊎_, inl, inr}
 use native.Mathlib.Omega.{arith}
-use borrow.Author.Tests.{lt-ltb, le-ltb, ltb-true, ltb-false, le-leb, leb-true, eq-eqb, ne-eqb}
+use borrow.Author.Tests.{lt-ltb, le-ltb, ltb-true, ltb-false, le-leb, leb-true, eq-eqb, ne-eqb, eqb-true}
 use lib.Dec.{eqb, leb, ltb}
-use lib.ListN.{length}
+use lib.ListN.{length, getD}
 use lib.Ieee.{Float}
 use Rattle.octets.proofs.Cases.{apart, split}
 use Rattle.refusals.specs.declared.Refusal.{Refusal}
@@ -19,6 +19,7 @@ use Rattle.refusals.proofs.Laws.{in-order}
 use Rattle.tiling_sections.specs.declared.Located.{Located}
 use Rattle.tiling_sections.specs.declared.Starts.{Starts}
 use Rattle.tiling_sections.specs.declared.Step.the-variants as Step
+use Rattle.tiling_sections.specs.Walk.{nowhere}
 use Rattle.tiling_sections.specs.Stands as Stands
 use Rattle.tiling.specs.declared.Checked.{Checked}
 use Rattle.tiling.specs.declared.Checked.the-variants as Checked
@@ -46,12 +47,12 @@ use Rattle.section_5.specs.declared.Represented.the-variants as Represented
 use Rattle.section_5.specs.Representation.{representationAt}
 use Rattle.section_6.specs.declared.Presence.{Presence}
 use Rattle.section_6.specs.declared.Marked.the-variants as Marked
-use Rattle.section_6.specs.Presence.{presenceAt}
+use Rattle.section_6.specs.Presence.{presenceAt, presentAt, presentBefore}
 use Rattle.section_7.specs.declared.Packed.the-variants as Packed
 use Rattle.section_7.specs.Packing.{dataAt}
 use Rattle.doubles.specs.Doubles.{isInRange}
-use Rattle.values_integers.specs.Integers.{integerAt}
-use Rattle.values_integers.proofs.Range.{in-range-one, out-of-range}
+use Rattle.values_integers.specs.Integers.{integerAt, areInRange}
+use Rattle.values_integers.proofs.Range.{in-range-one, in-range-out, out-of-range}
 use Rattle.question.specs.declared.Description.{Description}
 use Rattle.question.specs.declared.Described.{Described}
 use Rattle.question.specs.declared.Described.the-variants as Described
@@ -67,11 +68,16 @@ use Rattle.question_place.specs.declared.OnDegrees.{OnDegrees}
 use Rattle.question_place.specs.declared.OnDegrees.the-variants as OnDegrees
 use Rattle.question_place.specs.declared.OnLambert.{OnLambert}
 use Rattle.question_place.specs.declared.OnLambert.the-variants as OnLambert
-use Rattle.question_place.specs.Place.{placedBy, sheetBy, onDegrees, onLambert}
+use Rattle.question_place.specs.Place.{pointAsked, placedBy, sheetBy, onDegrees, onLambert}
 use Rattle.question_place.proofs.Laws.{kindAsked, pointOf, inDegreesAs, onLambertAs, degrees-alike, lambert-alike}
 use Rattle.question_decode.specs.Decoding.{Outcome, gives, refuses, outcomeBy, outcome, answerOf, valuesAfter, presenceAfter}
-use Rattle.theorems_demands.specs.Questions.{Question, Verdict, ofChecked, ofDescribed, ofPlaced, ofSheet, ofDegrees, ofLambert, ofDecoded, verdict, check, describe, place, sheet, decode, describeInto, placeInto, sheetInto, answered, refused, refusedBy}
-use Rattle.theorems_demands.specs.Demand1.{FieldAt, Names, describes, places, decodes, describesInto, placesInto, sheets, sheetsInto, About, AsksPoint, inDegrees, inDegreesInto, onSheet, onSheetInto, Lends, lends, LendsNumbers, forDegrees, forLambert, Fault, Applies, First, Demand1}
+use Rattle.question_decode.specs.Decoding.{presentOf, rankOf}
+use Rattle.question_point.specs.declared.Pointed.{Pointed}
+use Rattle.question_point.specs.Point as Point
+use Rattle.question_point.specs.Point.{pointIf, pointAskedOf, pointedBy}
+use Rattle.question_point.proofs.Laws.{told-out}
+use Rattle.theorems_demands.specs.Questions.{Question, Verdict, ofChecked, ofDescribed, ofPlaced, ofSheet, ofDegrees, ofLambert, ofDecoded, ofPointed, verdict, check, describe, place, sheet, decode, point, describeInto, placeInto, sheetInto, pointInto, answered, refused, refusedBy}
+use Rattle.theorems_demands.specs.Demand1.{FieldAt, Names, describes, places, decodes, describesInto, placesInto, sheets, sheetsInto, tells, tellsInto, About, AsksPoint, inDegrees, inDegreesInto, onSheet, onSheetInto, itsValue, itsValueInto, AsksOf, forPlace, forPlaceInto, forSheet, forSheetInto, AsksValue, aValue, aValueInto, Lends, lends, LendsNumbers, forDegrees, forLambert, Fault, Applies, First, Demand1}
 use Rattle.theorems_demands.specs.Demand1 as Spec
 
 -- Where a refusal stands in the order.
@@ -223,6 +229,45 @@ lambert-told : (o : OnLambert) → ofLambert o ≡ ofAsked (onLambertAs o)
 lambert-told (OnLambert.Grid g) = refl
 lambert-told (OnLambert.Refused r) = refl
 
+-- The two sorts of questions about a point: where it lies, on grids of one template, and what its value is; each for a run of this length.
+data AsksPlace : Question → (template n room : ℕ) → Type 0 where
+  degrees : {k n : ℕ} → AsksPlace (place k n) 0 n 2
+  degreesInto : {k n room : ℕ} → AsksPlace (placeInto k n room) 0 n room
+  onPaper : {k n : ℕ} → AsksPlace (sheet k n) 30 n 2
+  onPaperInto : {k n room : ℕ} → AsksPlace (sheetInto k n room) 30 n room
+
+data AsksIn : Question → (n room : ℕ) → Type 0 where
+  value : {k n : ℕ} → AsksIn (point k n) n 1
+  valueInto : {k n room : ℕ} → AsksIn (pointInto k n room) n room
+
+sort-of : {q : Question} {n needed room : ℕ} → AsksPoint q n needed room → ((template : ℕ) × AsksPlace q template n room × (needed ≡ 2)) ⊎ (AsksIn q n room × (needed ≡ 1))
+sort-of inDegrees = inl (0, degrees, refl)
+sort-of inDegreesInto = inl (0, degreesInto, refl)
+sort-of onSheet = inl (30, onPaper, refl)
+sort-of onSheetInto = inl (30, onPaperInto, refl)
+sort-of itsValue = inr (value, refl)
+sort-of itsValueInto = inr (valueInto, refl)
+
+place-of : {q : Question} {template : ℕ} → AsksOf q template → (n : ℕ) × (room : ℕ) × AsksPlace q template n room
+place-of forPlace = (_, _, degrees)
+place-of forPlaceInto = (_, _, degreesInto)
+place-of forSheet = (_, _, onPaper)
+place-of forSheetInto = (_, _, onPaperInto)
+
+value-of : {q : Question} {n : ℕ} → AsksValue q n → (room : ℕ) × AsksIn q n room
+value-of aValue = (_, value)
+value-of aValueInto = (_, valueInto)
+
+placed-asks : {q : Question} {template n room : ℕ} → AsksPlace q template n room → AsksPoint q n 2 room × AsksOf q template
+placed-asks degrees = (inDegrees, forPlace)
+placed-asks degreesInto = (inDegreesInto, forPlaceInto)
+placed-asks onPaper = (onSheet, forSheet)
+placed-asks onPaperInto = (onSheetInto, forSheetInto)
+
+valued-asks : {q : Question} {n room : ℕ} → AsksIn q n room → AsksPoint q n 1 room × AsksValue q n
+valued-asks value = (itsValue, aValue)
+valued-asks valueInto = (itsValueInto, aValueInto)
+
 -- A question is refused by s, or by a refusal that comes before s.
 abbrev Caught : List ℕ → Question → Refusal → Type 0
 Caught file q s = (r : Refusal) × (verdict file q ≡ refusedBy r) × ((r ≡ s) ⊎ (step r < step s))
@@ -267,6 +312,8 @@ module _ (file : List ℕ) where
   asked placesInto e = rw e
   asked sheets e = rw e
   asked sheetsInto e = rw e
+  asked tells e = rw e
+  asked tellsInto e = rw e
 
   caught-by : {q : Question} {l : Located} {s : Refusal} → About file q l → CaughtIn s (describedAt file l) → Caught file q s
   caught-by about caught = (caught .0, asked (about .names) (described-is (about .lies) ∙ caught .1), caught .2)
@@ -279,6 +326,8 @@ module _ (file : List ℕ) where
   file-refused {r} (placeInto k n room) bad = asked placesInto (ap (fieldIn file k) (refuses-so file r .1 bad))
   file-refused {r} (sheet k n) bad = asked sheets (ap (fieldIn file k) (refuses-so file r .1 bad))
   file-refused {r} (sheetInto k n room) bad = asked sheetsInto (ap (fieldIn file k) (refuses-so file r .1 bad))
+  file-refused {r} (point k n) bad = asked tells (ap (fieldIn file k) (refuses-so file r .1 bad))
+  file-refused {r} (pointInto k n room) bad = asked tellsInto (ap (fieldIn file k) (refuses-so file r .1 bad))
   file-refused {r} (decode k start values presence) bad = asked decodes (ap (fieldIn file k) (refuses-so file r .1 bad))
 
   no-field : (k : ℕ) {m : ℕ} (fs : List Located) → tilingOf file ≡ Tiling.tiled m fs → length fs ≤ k → Describe.describe file k ≡ refusedAt Why.NoSuchField 0
@@ -299,41 +348,79 @@ module _ (file : List ℕ) where
           ap (λ (a : Described). ofDecoded (answerOf (outcomeBy file (askedOf file (Asks.Values start values presence) a)))) (described-is at ∙ said)
           ∙ ap (λ (a : Described). ofDecoded (answerOf (outcomeBy file a))) e
 
-  -- A question about a point is judged by the kind of the grid, then by the point, and then by the room.
-  point-verdict : {q : Question} {j template n room : ℕ} → AsksPoint q template n room → Names q j → verdict file q ≡ ofAsked (pointOf template n room (Describe.describe file j))
-  point-verdict (inDegrees {k} {n}) names = by names
+  -- A question where a point lies is judged by the kind of the grid, then by the point, and then by the room.
+  place-verdict : {q : Question} {j template n room : ℕ} → AsksPlace q template n room → Names q j → verdict file q ≡ ofAsked (pointOf template n room (Describe.describe file j))
+  place-verdict (degrees {k} {n}) names = by names
     where
       by : {j : ℕ} → Names (place k n) j → verdict file (place k n) ≡ ofAsked (pointOf 0 n 2 (Describe.describe file j))
       by places = placed-told n (onDegrees file k n 2) ∙ ap ofAsked (degrees-alike n 2 (Describe.describe file k))
-  point-verdict (inDegreesInto {k} {n} {room}) names = by names
+  place-verdict (degreesInto {k} {n} {room}) names = by names
     where
       by : {j : ℕ} → Names (placeInto k n room) j → verdict file (placeInto k n room) ≡ ofAsked (pointOf 0 n room (Describe.describe file j))
       by placesInto = degrees-told (onDegrees file k n room) ∙ ap ofAsked (degrees-alike n room (Describe.describe file k))
-  point-verdict (onSheet {k} {n}) names = by names
+  place-verdict (onPaper {k} {n}) names = by names
     where
       by : {j : ℕ} → Names (sheet k n) j → verdict file (sheet k n) ≡ ofAsked (pointOf 30 n 2 (Describe.describe file j))
       by sheets = sheet-told n (onLambert file k n 2) ∙ ap ofAsked (lambert-alike n 2 (Describe.describe file k))
-  point-verdict (onSheetInto {k} {n} {room}) names = by names
+  place-verdict (onPaperInto {k} {n} {room}) names = by names
     where
       by : {j : ℕ} → Names (sheetInto k n room) j → verdict file (sheetInto k n room) ≡ ofAsked (pointOf 30 n room (Describe.describe file j))
       by sheetsInto = lambert-told (onLambert file k n room) ∙ ap ofAsked (lambert-alike n room (Describe.describe file k))
 
-  -- What it is answered of a field that is described.
-  point-refused :
+  -- One about its value is judged by the point, by the room, and then by its integers.
+  value-verdict : {q : Question} {j n room : ℕ} → AsksIn q n room → Names q j → verdict file q ≡ ofPointed (Point.pointInto file j n room)
+  value-verdict (value {k} {n}) names = by names
+    where
+      by : {j : ℕ} → Names (point k n) j → verdict file (point k n) ≡ ofPointed (Point.pointInto file j n 1)
+      by tells = refl
+  value-verdict (valueInto {k} {n} {room}) names = by names
+    where
+      by : {j : ℕ} → Names (pointInto k n room) j → verdict file (pointInto k n room) ≡ ofPointed (Point.pointInto file j n room)
+      by tellsInto = refl
+
+  -- What is answered of a field that is described.
+  place-refused :
       {q : Question} {l : Located} {d : Description} {r : Refusal} {template n room : ℕ} →
       About file q l →
-      AsksPoint q template n room →
+      AsksPlace q template n room →
       describedAt file l ≡ Described.As d →
       kindAsked template n room (d .grid) ≡ Asked.Refused r →
       verdict file q ≡ refusedBy r
-  point-refused {template = template} {n = n} {room = room} about lent said e =
-      point-verdict lent (about .names) ∙ ap ofAsked (ap (pointOf template n room) (described-is (about .lies) ∙ said) ∙ e)
+  place-refused {template = template} {n = n} {room = room} about lent said e =
+      place-verdict lent (about .names) ∙ ap ofAsked (ap (pointOf template n room) (described-is (about .lies) ∙ said) ∙ e)
+
+  value-refused :
+      {q : Question} {l : Located} {d : Description} {r : Refusal} {n room : ℕ} →
+      About file q l →
+      AsksIn q n room →
+      describedAt file l ≡ Described.As d →
+      pointAskedOf file n room d ≡ Pointed.Refused r →
+      verdict file q ≡ refusedBy r
+  value-refused {n = n} {room = room} about lent said e =
+      value-verdict lent (about .names) ∙ ap ofPointed (ap (pointedBy file n room) (described-is (about .lies) ∙ said) ∙ e)
+
+  -- Where the point or the room is refused, so is the question, unless the grid is of the other kind.
+  point-refused :
+      {q : Question} {l : Located} {d : Description} {r : Refusal} {n needed room : ℕ} →
+      About file q l →
+      AsksPoint q n needed room →
+      describedAt file l ≡ Described.As d →
+      pointAsked n needed room (d .grid) ≡ Asked.Refused r →
+      (verdict file q ≡ refusedBy r) ⊎ (verdict file q ≡ refusedBy (refusal Why.OtherGrid 0))
+  point-refused {q} {l} {d} {r} {n} {needed} {room} about lent said e = by (sort-of lent)
+    where
+      by : ((template : ℕ) × AsksPlace q template n room × (needed ≡ 2)) ⊎ (AsksIn q n room × (needed ≡ 1)) → (verdict file q ≡ refusedBy r) ⊎ (verdict file q ≡ refusedBy (refusal Why.OtherGrid 0))
+      by (inl (template, lies, two)) =
+          split (eqb (templateOf (d .grid)) template)
+          (λ kind. inl (place-refused {r = r} about lies said (rw kind (rw two at e))))
+          (λ another. inr (place-refused {r = refusal Why.OtherGrid 0} about lies said (rw another)))
+      by (inr (told, one)) = inl (value-refused {r = r} about told said (ap (pointIf file d n) (rw one at e)))
 
   -- 20: the grid is of the other kind.
   other :
-      {q : Question} {l : Located} {g : Grid} {template n room : ℕ} →
+      {q : Question} {l : Located} {g : Grid} {template : ℕ} →
       About file q l →
-      AsksPoint q template n room →
+      AsksOf q template →
       gridAt file (l .starts .three .0) ≡ Gridded.On g →
       (templateOf g ≡ template → ⊥) →
       Caught file q (refusal Why.OtherGrid 0)
@@ -344,45 +431,45 @@ module _ (file : List ℕ) where
       by (inr (d, said)) =
           let of-grid = described-judged file l d said .ofThree in
           let same : g ≡ d .grid = cc in
-          (refusal Why.OtherGrid 0, point-refused {r = refusal Why.OtherGrid 0} about lent said (rw (ne-eqb (templateOf (d .grid)) template (rw same at differs))), inl refl)
+          (refusal Why.OtherGrid 0, place-refused {r = refusal Why.OtherGrid 0} about (place-of lent .2) said (rw (ne-eqb (templateOf (d .grid)) template (rw same at differs))), inl refl)
+
+  -- A refusal of the point or of the room is caught, or 20 is, which comes before both.
+  or-other : (q : Question) {t s : Refusal} → (t ≡ s) ⊎ (step t < step s) → stepsBefore order 20 < step s → (verdict file q ≡ refusedBy t) ⊎ (verdict file q ≡ refusedBy (refusal Why.OtherGrid 0)) → Caught file q s
+  or-other q {t = t} which before (inl given) = (t, given, which)
+  or-other q which before (inr given) = (refusal Why.OtherGrid 0, given, inr before)
 
   -- 17: there is no such point. 20 comes before it.
   beyond :
-      {q : Question} {l : Located} {g : Grid} {template n room : ℕ} →
+      {q : Question} {l : Located} {g : Grid} {n needed room : ℕ} →
       About file q l →
-      AsksPoint q template n room →
+      AsksPoint q n needed room →
       gridAt file (l .starts .three .0) ≡ Gridded.On g →
       pointsOf g ≤ n →
       Caught file q (refusal Why.NoSuchPoint 0)
-  beyond {q} {l} {g} {template} {n} about lent of-three few = by (described-or file l (refusal Why.NoSuchPoint 0) (omega (arith, in-order)))
+  beyond {q} {l} {g} {n} about lent of-three few = by (described-or file l (refusal Why.NoSuchPoint 0) (omega (arith, in-order)))
     where
       by : CaughtOr file l (refusal Why.NoSuchPoint 0) (describedAt file l) → Caught file q (refusal Why.NoSuchPoint 0)
       by (inl caught) = caught-by about caught
       by (inr (d, said)) =
           let of-grid = described-judged file l d said .ofThree in
           let same : g ≡ d .grid = cc in
-          split (eqb (templateOf (d .grid)) template)
-          (λ kind. (refusal Why.NoSuchPoint 0, point-refused {r = refusal Why.NoSuchPoint 0} about lent said (rw (kind, le-leb (pointsOf (d .grid)) n (rw same at few))), inl refl))
-          (λ another. (refusal Why.OtherGrid 0, point-refused {r = refusal Why.OtherGrid 0} about lent said (rw another), inr (omega (arith, in-order))))
+          or-other q (inl refl) (omega (arith, in-order)) (point-refused {r = refusal Why.NoSuchPoint 0} about lent said (rw (le-leb (pointsOf (d .grid)) n (rw same at few))))
 
-  -- 15: the run is too short for a place. 20 and 17 come before it.
-  short-place :
-      {q : Question} {l : Located} {template n room : ℕ} →
+  -- 15: the run is too short for what tells of the point. 20 and 17 come before it.
+  short-point :
+      {q : Question} {l : Located} {n needed room : ℕ} →
       About file q l →
-      AsksPoint q template n room →
-      room < 2 →
+      AsksPoint q n needed room →
+      room < needed →
       Caught file q (refusal Why.NoRoom 0)
-  short-place {q} {l} {template} {n} {room} about lent less = by (described-or file l (refusal Why.NoRoom 0) (omega (arith, in-order)))
+  short-point {q} {l} {n} {needed} {room} about lent less = by (described-or file l (refusal Why.NoRoom 0) (omega (arith, in-order)))
     where
       by : CaughtOr file l (refusal Why.NoRoom 0) (describedAt file l) → Caught file q (refusal Why.NoRoom 0)
       by (inl caught) = caught-by about caught
       by (inr (d, said)) =
-          split (eqb (templateOf (d .grid)) template)
-          (λ kind.
           split (leb (pointsOf (d .grid)) n)
-          (λ behind. (refusal Why.NoSuchPoint 0, point-refused {r = refusal Why.NoSuchPoint 0} about lent said (rw (kind, behind)), inr (omega (arith, in-order))))
-          (λ there. (refusal Why.NoRoom 0, point-refused {r = refusal Why.NoRoom 0} about lent said (rw (kind, there, lt-ltb room 2 less)), inl refl)))
-          (λ another. (refusal Why.OtherGrid 0, point-refused {r = refusal Why.OtherGrid 0} about lent said (rw another), inr (omega (arith, in-order))))
+          (λ behind. or-other q {t = refusal Why.NoSuchPoint 0} (inr (omega (arith, in-order))) (omega (arith, in-order)) (point-refused {r = refusal Why.NoSuchPoint 0} about lent said (rw behind)))
+          (λ there. or-other q (inl refl) (omega (arith, in-order)) (point-refused {r = refusal Why.NoRoom 0} about lent said (rw (there, lt-ltb room needed less))))
 
   -- 15: the run is too short for the numbers of a description.
   short :
@@ -457,6 +544,44 @@ module _ (file : List ℕ) where
           (λ fails. (refusal Why.ValueOutOfRange (d .starts .seven .0), decoded-as {r = refusal Why.ValueOutOfRange (d .starts .seven .0)} about lent said (rw (room, fails)), inl (ap (refusal Why.ValueOutOfRange) (sym seven)))))
           (λ none. (refusal Why.NoRoom 0, decoded-as {r = refusal Why.NoRoom 0} about lent said (rw none), inr (omega (arith, in-order))))
 
+  -- 16: an integer up to the point's own is out of its range. 17 and 15 come before it.
+  out-up-to :
+      {q : Question} {l : Located} {g : Grid} {r : Representation} {p : Presence} {n : ℕ} (j : ℕ) →
+      About file q l →
+      AsksValue q n →
+      gridAt file (l .starts .three .0) ≡ Gridded.On g →
+      representationAt file (l .starts .five .0) ≡ Represented.By r →
+      presenceAt file (l .starts .six .0) (l .bitmap) (pointsOf g) (r .n) ≡ Marked.As p →
+      presentAt file p (pointsOf g) n ≡ 1 →
+      j ≤ presentBefore file p (pointsOf g) n →
+      isInRange (integerAt file (l .starts .seven .0) r j) ≡ false →
+      Caught file q (refusal Why.ValueOutOfRange (l .starts .seven .0))
+  out-up-to {q} {l} {g} {r} {p} {n} j about asks of-three of-five of-six present among outside = by (described-or file l (refusal Why.ValueOutOfRange (l .starts .seven .0)) (omega (arith, in-order)))
+    where
+      by : CaughtOr file l (refusal Why.ValueOutOfRange (l .starts .seven .0)) (describedAt file l) → Caught file q (refusal Why.ValueOutOfRange (l .starts .seven .0))
+      by (inl caught) = caught-by about caught
+      by (inr (d, said)) =
+          let judged = described-judged file l d said in
+          let of-grid = judged .ofThree in
+          let of-representation = judged .ofFive in
+          let grids : g ≡ d .grid = cc in
+          let alike : r ≡ d .representation = cc in
+          let of-presence : presenceAt file (l .starts .six .0) (l .bitmap) (pointsOf g) (r .n) ≡ Marked.As (d .presence) = rw (grids, alike) (judged .ofSix) in
+          let marks : p ≡ d .presence = cc in
+          let seven : l .starts .seven .0 ≡ d .starts .seven .0 = ap (λ (s : Starts). s .seven .0) (sym (judged .ofStarts)) in
+          let here : presentOf file d n ≡ 1 = rw (← grids, ← marks) present in
+          let upto : j ≤ rankOf file d n = rw (← grids, ← marks) among in
+          let beyond : isInRange (integerOf file d j) ≡ false = rw (← alike, ← seven) outside in
+          let fails = in-range-out (integerOf file d) (suc (rankOf file d n)) {j = j} (omega arith) beyond in
+          let told = value-of asks .1 in
+          split (leb (pointsOf (d .grid)) n)
+          (λ behind. (refusal Why.NoSuchPoint 0, value-refused {r = refusal Why.NoSuchPoint 0} about told said (rw behind), inr (omega (arith, in-order))))
+          (λ there.
+          split (ltb (value-of asks .0) 1)
+          (λ few. (refusal Why.NoRoom 0, value-refused {r = refusal Why.NoRoom 0} about told said (rw (there, few)), inr (omega (arith, in-order))))
+          (λ enough.
+          (refusal Why.ValueOutOfRange (d .starts .seven .0), value-refused {r = refusal Why.ValueOutOfRange (d .starts .seven .0)} about told said (rw (there, enough) (told-out file d n here fails)), inl (ap (refusal Why.ValueOutOfRange) (sym seven)))))
+
   -- 3 to 7: a fault of the tiling comes behind 1 alone.
   faulted : (q : Question) {why : declaredWhy.Why} {place : ℕ} → Fault file why place → Caught file q (refusal why place)
   faulted q f =
@@ -483,9 +608,11 @@ module _ (file : List ℕ) where
   caught {q} (Spec.section-7 {l} about of-five fails) = told file q (refusal Why.BadPacking (l .starts .seven .0)) (caught-by about (caught-7 file l of-five fails))
   caught {q} (Spec.no-room {start = start} {values = values} {presence = presence} about lent of-three fits) = told file q (refusal Why.NoRoom 0) (full start values presence about lent of-three fits)
   caught {q} (Spec.no-room-for-numbers about of-three lent few) = told file q (refusal Why.NoRoom 0) (short about of-three lent few)
-  caught {q} (Spec.no-room-for-place about lent few) = told file q (refusal Why.NoRoom 0) (short-place about lent few)
+  caught {q} (Spec.no-room-for-point about lent few) = told file q (refusal Why.NoRoom 0) (short-point about lent few)
   caught {q} (Spec.out-of-range {l} {start = start} {values = values} {presence = presence} {m = m} about lent of-five among outside) =
       told file q (refusal Why.ValueOutOfRange (l .starts .seven .0)) (out start values presence m about lent of-five among outside)
+  caught {q} (Spec.out-of-range-up-to {l} {j = j} about asks of-three of-five of-six present among outside) =
+      told file q (refusal Why.ValueOutOfRange (l .starts .seven .0)) (out-up-to j about asks of-three of-five of-six present among outside)
   caught {q} (Spec.no-such-point about lent of-three few) = told file q (refusal Why.NoSuchPoint 0) (beyond about lent of-three few)
   caught {q} (Spec.other-grid about lent of-three differs) = told file q (refusal Why.OtherGrid 0) (other about lent of-three differs)
 
@@ -578,21 +705,21 @@ module _ (file : List ℕ) where
   explain-point : {q : Question} {t : Refusal} → AppliesBy q t → ExplainedPoint q (Asked.Refused t)
   explain-point {q} {t} applies r same = let alike : t ≡ r = cc in subst (AppliesBy q) alike applies
 
-  kind-applies : {q : Question} {k template n room : ℕ} → Names q k → AsksPoint q template n room → (d : Description) → Describe.describe file k ≡ Described.As d → ExplainedPoint q (kindAsked template n room (d .grid))
+  kind-applies : {q : Question} {k template n room : ℕ} → Names q k → AsksPlace q template n room → (d : Description) → Describe.describe file k ≡ Described.As d → ExplainedPoint q (kindAsked template n room (d .grid))
   kind-applies {q} {k} {template} {n} {room} names lent d said =
       let at = described-at k said in
       let about : About file q (at .0) = record { k = k; names = names; lies = at .1 } in
       split (eqb (templateOf (d .grid)) template)
       (λ kind.
       split (leb (pointsOf (d .grid)) n)
-      (λ behind. rw (kind, behind) (explain-point (Spec.no-such-point about lent (at .2 .ofThree) (leb-true (pointsOf (d .grid)) n behind))))
+      (λ behind. rw (kind, behind) (explain-point (Spec.no-such-point about (placed-asks lent .0) (at .2 .ofThree) (leb-true (pointsOf (d .grid)) n behind))))
       (λ there.
       split (ltb room 2)
-      (λ few. rw (kind, there, few) (explain-point (Spec.no-room-for-place about lent (ltb-true room 2 few))))
+      (λ few. rw (kind, there, few) (explain-point (Spec.no-room-for-point about (placed-asks lent .0) (ltb-true room 2 few))))
       (λ enough. rw (kind, there, enough) (λ r same. apart cc))))
-      (λ another. rw another (explain-point (Spec.other-grid about lent (at .2 .ofThree) (λ same. let is = eq-eqb (templateOf (d .grid)) template same in apart cc))))
+      (λ another. rw another (explain-point (Spec.other-grid about (placed-asks lent .1) (at .2 .ofThree) (λ same. let is = eq-eqb (templateOf (d .grid)) template same in apart cc))))
 
-  point-applies : {q : Question} {k template n room : ℕ} → Names q k → AsksPoint q template n room → ExplainedPoint q (pointOf template n room (Describe.describe file k))
+  point-applies : {q : Question} {k template n room : ℕ} → Names q k → AsksPlace q template n room → ExplainedPoint q (pointOf template n room (Describe.describe file k))
   point-applies {q} {k} {template} {n} {room} names lent = by (Describe.describe file k) refl
     where
       by : (a : Described) → Describe.describe file k ≡ a → ExplainedPoint q (pointOf template n room a)
@@ -627,12 +754,42 @@ module _ (file : List ℕ) where
   told-applies : {q : Question} (f : Refusal) {m p : ℕ} → refusedBy f ≡ refused m p → AppliesBy q f → Applies file q m p
   told-applies {q} f {m} e applies = let same = one-verdict e in subst (Applies file q m) (same .1) (subst (λ (n : ℕ). Applies file q n (f .place .0)) (same .0) applies)
 
-  told-point : {q : Question} {k template n room m p : ℕ} → Names q k → AsksPoint q template n room → verdict file q ≡ refused m p → Applies file q m p
-  told-point {q} {k} {template} {n} {room} {m} {p} names lent e = by (pointOf template n room (Describe.describe file k)) refl (sym (point-verdict lent names) ∙ e)
+  told-point : {q : Question} {k template n room m p : ℕ} → Names q k → AsksPlace q template n room → verdict file q ≡ refused m p → Applies file q m p
+  told-point {q} {k} {template} {n} {room} {m} {p} names lent e = by (pointOf template n room (Describe.describe file k)) refl (sym (place-verdict lent names) ∙ e)
     where
       by : (a : Asked) → pointOf template n room (Describe.describe file k) ≡ a → ofAsked a ≡ refused m p → Applies file q m p
       by Asked.Taken said e = clash-verdict e
       by (Asked.Refused f) said e = told-applies f e (point-applies names lent f said)
+
+  -- What is refused of a point's value applies: of the field, of the point, of the room, or of an integer up to its own.
+  pointed-applies : {q : Question} {k n room m p : ℕ} → Names q k → AsksIn q n room → (d : Description) → Describe.describe file k ≡ Described.As d → ofPointed (pointAskedOf file n room d) ≡ refused m p → Applies file q m p
+  pointed-applies {q} {k} {n} {room} names lent d said e =
+      let at = described-at k said in
+      let about : About file q (at .0) = record { k = k; names = names; lies = at .1 } in
+      let asks = valued-asks lent in
+      let starts : d .starts .seven .0 ≡ at .0 .starts .seven .0 = ap (λ (s : Starts). s .seven .0) (at .2 .ofStarts) in
+      split (leb (pointsOf (d .grid)) n)
+      (λ behind. told-applies (refusal Why.NoSuchPoint 0) (rw behind at e) (Spec.no-such-point about (asks .0) (at .2 .ofThree) (leb-true (pointsOf (d .grid)) n behind)))
+      (λ there.
+      split (ltb room 1)
+      (λ few. told-applies (refusal Why.NoRoom 0) (rw (there, few) at e) (Spec.no-room-for-point about (asks .0) (ltb-true room 1 few)))
+      (λ enough.
+      split (eqb (presentOf file d n) 1)
+      (λ present.
+      split (areInRange (integerOf file d) (suc (rankOf file d n)))
+      (λ inside. clash-verdict (rw (there, enough, present, inside) at e))
+      (λ fails.
+      let outside = out-of-range (integerOf file d) (suc (rankOf file d n)) fails in
+      told-applies (refusal Why.ValueOutOfRange (d .starts .seven .0)) (rw (there, enough, present, fails) at e)
+      (rw starts (Spec.out-of-range-up-to {j = outside .0} about (asks .1) (at .2 .ofThree) (at .2 .ofFive) (at .2 .ofSix) (eqb-true (presentOf file d n) 1 present) (omega (arith, outside .1)) (rw (sym starts) (outside .2))))))
+      (λ missing. clash-verdict (rw (there, enough, missing) at e))))
+
+  told-value-of : {q : Question} {k n room m p : ℕ} → Names q k → AsksIn q n room → verdict file q ≡ refused m p → Applies file q m p
+  told-value-of {q} {k} {n} {room} {m} {p} names lent e = by (Describe.describe file k) refl (sym (value-verdict lent names) ∙ e)
+    where
+      by : (a : Described) → Describe.describe file k ≡ a → ofPointed (pointedBy file n room a) ≡ refused m p → Applies file q m p
+      by (Described.As d) said e = pointed-applies names lent d said e
+      by (Described.Refused f) said e = told-applies f e (described-applies names f said)
 
   applies-of : {m p : ℕ} (q : Question) → verdict file q ≡ refused m p → Applies file q m p
   applies-of {m} {p} check e = by (Tiling.check file) refl e
@@ -645,8 +802,8 @@ module _ (file : List ℕ) where
       by : (a : Described) → Describe.describe file k ≡ a → ofDescribed a ≡ refused m p → Applies file (describe k) m p
       by (Described.As d) said e = clash-verdict e
       by (Described.Refused f) said e = told-applies f e (described-applies describes f said)
-  applies-of (place k n) e = told-point places inDegrees e
-  applies-of (sheet k n) e = told-point sheets onSheet e
+  applies-of (place k n) e = told-point places degrees e
+  applies-of (sheet k n) e = told-point sheets onPaper e
   applies-of {m} {p} (decode k start values presence) e = by (judge file k (Asks.Values start values presence)) refl e
     where
       by : (a : Described) → judge file k (Asks.Values start values presence) ≡ a → ofDecoded (answerOf (outcomeBy file a)) ≡ refused m p → Applies file (decode k start values presence) m p
@@ -657,8 +814,45 @@ module _ (file : List ℕ) where
       by : (a : Described) → judge file k (Asks.Numbers room) ≡ a → ofDescribed a ≡ refused m p → Applies file (describeInto k room) m p
       by (Described.As d) said e = clash-verdict e
       by (Described.Refused f) said e = told-applies f e (judged-applies describesInto (Asks.Numbers room) (numbers-applies k room) f said)
-  applies-of (placeInto k n room) e = told-point placesInto inDegreesInto e
-  applies-of (sheetInto k n room) e = told-point sheetsInto onSheetInto e
+  applies-of (placeInto k n room) e = told-point placesInto degreesInto e
+  applies-of (sheetInto k n room) e = told-point sheetsInto onPaperInto e
+  applies-of (point k n) e = told-value-of tells value e
+  applies-of (pointInto k n room) e = told-value-of tellsInto valueInto e
+
+-- Describe never refuses with 16: that comes behind all that it tries.
+module _ (file : List ℕ) where
+  abbrev NotOutside : Described → Type 0
+  NotOutside a = (p : ℕ) → a ≡ refusedAt Why.ValueOutOfRange p → ⊥
+
+  other-number : (why : declaredWhy.Why) {a p : ℕ} → numberOf why < 16 → refusal why a ≡ refusal Why.ValueOutOfRange p → ⊥
+  other-number why less e = let same = ap (λ (r : Refusal). numberOf (r .why)) e in absurd (omega arith)
+
+  other-refusal : (why : declaredWhy.Why) {a : ℕ} → numberOf why < 16 → NotOutside (refusedAt why a)
+  other-refusal why {a} less p e = let same : refusal why a ≡ refusal Why.ValueOutOfRange p = cc in other-number why less same
+
+  file-not-outside : {r : Refusal} → Refusals.Refused file r → (p : ℕ) → r ≡ refusal Why.ValueOutOfRange p → ⊥
+  file-not-outside (Refusals.Refused.too-long h) p e = other-number Why.TooLong (omega arith) e
+  file-not-outside (Refusals.Refused.empty h) p e = other-number Why.Empty (omega arith) e
+  file-not-outside (Refusals.Refused.message some few before inside faulty) p e =
+      let same = ap step (sym e) ∙ tiling-step faulty in
+      absurd (omega (arith, same, in-order))
+
+  field-not-outside : (l : Located) → NotOutside (describedAt file l)
+  field-not-outside l =
+      at-section-1 file l NotOutside (λ _. other-refusal Why.BadIdentification (omega arith))
+      (λ i _. at-section-3 file l NotOutside i (λ _. other-refusal Why.BadGrid (omega arith))
+      (λ g _. at-section-4 file l NotOutside i g (λ _. other-refusal Why.BadProduct (omega arith))
+      (λ m _. at-section-5 file l NotOutside i g m (λ _. other-refusal Why.BadRepresentation (omega arith))
+      (λ r _. at-section-6 file l NotOutside i g m r (λ _. other-refusal Why.BadBitmap (omega arith))
+      (λ q _. at-section-7 file l NotOutside i g m r q (λ _. other-refusal Why.BadPacking (omega arith))
+      (λ _ _ p e. apart cc))))))
+
+  pub describe-not-outside : (k : ℕ) → NotOutside (Describe.describe file k)
+  describe-not-outside k = by (tilingOf file) refl
+    where
+      by : (o : InFile) → tilingOf file ≡ o → NotOutside (fieldIn file k o)
+      by (Tiling.tiled m fs) is = split (ltb k (length fs)) (λ i. rw i (field-not-outside (getD fs k nowhere))) (λ i. rw i (other-refusal Why.NoSuchField (omega arith)))
+      by (Tiling.refused f) is = λ p e. let same : f ≡ refusal Why.ValueOutOfRange p = cc in file-not-outside (refuses-so file f .0 is) p same
 
 pub demand-1 : (file : List ℕ) → Demand1 file
 demand-1 file =

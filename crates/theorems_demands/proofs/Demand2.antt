@@ -5,14 +5,16 @@ use mathlib.Core.List.{List}
 use Prim.Native.Nat.{ℕ, _+_, _≤_, _<_}
 use native.Mathlib.Numerals.{add-one}
 use native.Mathlib.Omega.{arith}
-use borrow.Author.Tests.{leb-true}
-use lib.IntN.{ℤ, pos, negsuc, natAbs}
+use lib.IntN.{natAbs}
 use lib.ListN.{length}
 use lib.Ieee.{nan}
-use Rattle.octets.proofs.Cases.{apart}
+use Rattle.octets.proofs.Cases.{apart, split}
+use Rattle.refusals.specs.declared.Refusal.{Refusal}
+use Rattle.refusals.specs.declared.Why.the-variants as Why
+use Rattle.refusals.specs.Refusals.{refusal, numberOf}
 use Rattle.laws_rows.specs.Rows.{row, laid}
 use Rattle.laws_rows.proofs.Laws.{laid-within, laid-before, laid-behind}
-use Rattle.doubles.specs.Doubles.{isInRange, packingOf, valueOf}
+use Rattle.doubles.specs.Doubles.{packingOf, valueOf}
 use Rattle.theorems_grammar.proofs.Accepted.{counts}
 use Rattle.theorems_grammar.proofs.Unique.{unique}
 use Rattle.section_3_geometry.specs.declared.Position.{Position}
@@ -27,18 +29,15 @@ use Rattle.section_3_positions.proofs.Laws.{position-lies, lies-once, lie-as-ex
 use Rattle.section_3_lambert.specs.declared.SheetPlace.{SheetPlace}
 use Rattle.section_3_lambert.specs.Sheet.{sheetOf}
 use Rattle.section_3.proofs.Laws.{Passes}
-use Rattle.section_6.specs.declared.Presence as declared
-use Rattle.section_6.specs.declared.Presence.the-variants as Presence
-use Rattle.section_6.specs.Presence.{presentAt, presentBefore}
+use Rattle.section_6.specs.Presence.{presentBefore}
 use Rattle.values_points.specs.Points.{pointValue}
 use Rattle.values_points.proofs.Laws.{rank-mono}
-use Rattle.bits.proofs.Laws.{bit-lt}
 use Rattle.values_integers.proofs.Range.{in-range-one}
 use Rattle.question.specs.declared.Description.{Description}
 use Rattle.question.specs.declared.Described.{Described}
 use Rattle.question.specs.declared.Described.the-variants as Described
 use Rattle.question.specs.Describe.{describe}
-use Rattle.question.specs.Judge.{Asks, Known, integerOf, isDecodable, hasRoom, judge}
+use Rattle.question.specs.Judge.{Asks, Known, integerOf, isDecodable, hasRoom, askedOf, judge}
 use Rattle.question.proofs.Laws.{judged-described, judged-values, described-grid, room-fits}
 use Rattle.question.proofs.Known.{packed-present}
 use Rattle.question_place.specs.declared.Placed.the-variants as Placed
@@ -48,17 +47,29 @@ use Rattle.question_place.specs.declared.OnDegrees.the-variants as OnDegrees
 use Rattle.question_place.specs.declared.OnLambert.{OnLambert}
 use Rattle.question_place.specs.declared.OnLambert.the-variants as OnLambert
 use Rattle.question_place.specs.Place.{placeLength, onDegrees, onLambert, placedBy, place, sheetBy, sheet}
-use Rattle.question_place.proofs.Laws.{InDegrees, OnASheet, judged-degrees, degrees-judged, judged-lambert, lambert-judged, degrees-passes}
+use Rattle.question_place.proofs.Laws.{Placeable, judged-degrees, degrees-judged, judged-lambert, lambert-judged, degrees-passes}
 use Rattle.question_decode.specs.declared.Decoded.the-variants as Decoded
 use Rattle.question_decode.specs.Decoding as Decoding
 use Rattle.question_decode.specs.Decoding.{packingBy, presentOf, rankOf, doubleOf, Outcome, outcome, outcomeBy, answerOf, valuesAfter, presenceAfter}
-use Rattle.theorems_demands.specs.Demand2.{Present, Point, HasPoint, Call, leftBehind, answerTo, Decodes, Demand2}
-use Rattle.theorems_demands.proofs.Demand1.{described-is, described-at}
+use Rattle.question_point.specs.Point.{point}
+use Rattle.theorems_demands.specs.Alone.{Present, Alone, Agrees}
+use Rattle.theorems_demands.specs.Demand2.{Point, valueIn, markIn, HasPoint, Call, leftBehind, answerTo, Decodes, Demand2}
+use Rattle.theorems_demands.proofs.Demand1.{described-is, described-at, describe-not-outside}
+use Rattle.theorems_demands.proofs.Alone.{own-size, one-or-zero, told-alone, agreed}
 use Rattle.theorems_demands.proofs.Numbers.{in-numbers}
 
 -- An answer is one alone.
 one-count : {a b : ℕ} → Decoded.Points a ≡ Decoded.Points b → a ≡ b
 one-count e = cc
+
+one-outside : {a b : ℕ} → Decoded.Refused (refusal Why.ValueOutOfRange a) ≡ Decoded.Refused (refusal Why.ValueOutOfRange b) → b ≡ a
+one-outside {a} {b} e = let same : refusal Why.ValueOutOfRange a ≡ refusal Why.ValueOutOfRange b = cc in ap (λ (r : Refusal). r .place .0) (sym same)
+
+other-outside : {b : ℕ} → Decoded.Refused (refusal Why.NoRoom 0) ≡ Decoded.Refused (refusal Why.ValueOutOfRange b) → ⊥
+other-outside {b} e =
+    let same : refusal Why.NoRoom 0 ≡ refusal Why.ValueOutOfRange b = cc in
+    let numbers = ap (λ (r : Refusal). numberOf (r .why)) same in
+    absurd (omega arith)
 
 one-position : {a b : Position} → Placed.At a ≡ Placed.At b → a ≡ b
 one-position e = cc
@@ -66,30 +77,21 @@ one-position e = cc
 one-place : {a b : SheetPlace} → OnSheet.At a ≡ OnSheet.At b → a ≡ b
 one-place e = cc
 
--- An integer in its range is a number without a sign, which it is by its size.
-own-size : (z : ℤ) → isInRange z ≡ true → (z ≡ pos (natAbs z)) × (natAbs z ≤ 2147483647)
-own-size (pos x) e = (refl, leb-true x 2147483647 e)
-own-size (negsuc x) e = apart cc
-
--- A point is present or missing.
-one-or-zero : (file : List ℕ) (p : declared.Presence) (points i : ℕ) → presentAt file p points i < 2
-one-or-zero file Presence.All points i = omega arith
-one-or-zero file (Presence.Own s) points i = bit-lt _ i
-one-or-zero file (Presence.Earlier s) points i = bit-lt _ i
-
 module _ (file : List ℕ) (d : Description) (known : Known file d) (all : isDecodable file d ≡ true) where
   ranked-more : (i : ℕ) → rankOf file d (i + 1) ≡ rankOf file d i + presentOf file d i
   unfolding presentBefore
   ranked-more i = ap (rankOf file d) (add-one i)
 
   -- The integer of a point that is present is one of those that are packed.
+  pub rank-among : (i : ℕ) → i < pointsOf (d .grid) → presentOf file d i ≡ 1 → rankOf file d i < d .representation .n
+  rank-among i h mark =
+      omega (arith, packed-present file d known, ranked-more i, rank-mono (record { mark = presentOf file d; rank = rankOf file d }) ranked-more {i = i + 1} (pointsOf (d .grid)) (omega arith))
+
   pub present-met : (i : ℕ) → i < pointsOf (d .grid) → presentOf file d i ≡ 1 → Present file d i (doubleOf file d i)
   unfolding valueOf
   present-met i h mark =
       let rank : ℕ = rankOf file d i in
-      let among : rank < d .representation .n =
-      omega (arith, packed-present file d known, ranked-more i, rank-mono (record { mark = presentOf file d; rank = rankOf file d }) ranked-more {i = i + 1} (pointsOf (d .grid)) (omega arith)) in
-      let size = own-size (integerOf file d rank) (in-range-one (integerOf file d) (d .representation .n) {j = rank} all among) in
+      let size = own-size (integerOf file d rank) (in-range-one (integerOf file d) (d .representation .n) {j = rank} all (rank-among i h mark)) in
       record {
         x = natAbs (integerOf file d rank);
         standard = size .0;
@@ -144,6 +146,13 @@ module _ (file : List ℕ) (c : Call) where
           behind = λ i h. rw (value-is, mark-is) (laid-behind (c .before .values) (c .start) (doubleOf file d) points nan (fit .0) i h, laid-behind (c .before .presence) (c .start) (presentOf file d) points 0 (fit .1) i h);
         }
 
+    -- Each point that is asked for alone agrees with what is written for it.
+    agreed-met : (i : ℕ) → i < points → Agrees (point file (c .k) i) (valueIn (leftBehind file c) (c .start + i)) (markIn (leftBehind file c) (c .start + i))
+    agreed-met i h =
+        let p = decodes-met .points i h in
+        agreed file (c .k) i said h (p .marked) (p .missing) (p .present)
+        (λ one j l. in-range-one (integerOf file d) (d .representation .n) {j = j} all (omega (arith, rank-among file d (c .k, said) all i h one)))
+
   -- A call that answers with a count has decoded the field.
   pub decoded : (n : ℕ) → answerTo file c ≡ Decoded.Points n → (d : Description) × Decodes file c (leftBehind file c) d × (pointsOf (d .grid) ≡ n)
   decoded n = by (judge file (c .k) (Asks.Values (c .start) (length (c .before .values)) (length (c .before .presence)))) refl
@@ -153,6 +162,32 @@ module _ (file : List ℕ) (c : Call) where
           let known = judged-values file (c .k) (c .start) (length (c .before .values)) (length (c .before .presence)) said in
           (d, decodes-met d (known .0) (known .1) (known .2), one-count e)
       by (Described.Refused r) said e = apart cc
+
+  pub agrees : (n i : ℕ) → answerTo file c ≡ Decoded.Points n → i < n → Agrees (point file (c .k) i) (valueIn (leftBehind file c) (c .start + i)) (markIn (leftBehind file c) (c .start + i))
+  agrees n i = by (judge file (c .k) (Asks.Values (c .start) (length (c .before .values)) (length (c .before .presence)))) refl
+    where
+      by : (a : Described) → judge file (c .k) (Asks.Values (c .start) (length (c .before .values)) (length (c .before .presence))) ≡ a → answerOf (outcomeBy file a) ≡ Decoded.Points n → i < n →
+          Agrees (point file (c .k) i) (valueIn (leftBehind file c) (c .start + i)) (markIn (leftBehind file c) (c .start + i))
+      by (Described.As d) said e h =
+          let known = judged-values file (c .k) (c .start) (length (c .before .values)) (length (c .before .presence)) said in
+          agreed-met d (known .0) (known .1) (known .2) i (omega (arith, one-count e, h))
+      by (Described.Refused r) said e h = apart cc
+
+  -- A call that is refused with 16 is about a field that is described, and the place is that of its section 7.
+  pub besides : (place : ℕ) → answerTo file c ≡ Decoded.Refused (refusal Why.ValueOutOfRange place) →
+      (d : Description) × (describe file (c .k) ≡ Described.As d) × (place ≡ d .starts .seven .0) × ((n : ℕ) → n < pointsOf (d .grid) → Alone file d n (point file (c .k) n))
+  besides place = by (describe file (c .k)) refl
+    where
+      by : (a : Described) → describe file (c .k) ≡ a → answerOf (outcomeBy file (askedOf file (Asks.Values (c .start) (length (c .before .values)) (length (c .before .presence))) a)) ≡ Decoded.Refused (refusal Why.ValueOutOfRange place) →
+          (d : Description) × (describe file (c .k) ≡ Described.As d) × (place ≡ d .starts .seven .0) × ((n : ℕ) → n < pointsOf (d .grid) → Alone file d n (point file (c .k) n))
+      by (Described.Refused r) said e = let same : r ≡ refusal Why.ValueOutOfRange place = cc in absurd (describe-not-outside file (c .k) place (said ∙ ap Described.Refused same))
+      by (Described.As d) said e =
+          split (hasRoom (c .start) (pointsOf (d .grid)) (length (c .before .values)) (length (c .before .presence)))
+          (λ room.
+          split (isDecodable file d)
+          (λ all. let other = rw (room, all) at e in apart cc)
+          (λ fails. let other = rw (room, fails) at e in (d, said, one-outside other, λ n below. told-alone file (c .k) n said below)))
+          (λ none. absurd (other-outside (rw none at e)))
 
 -- Where a point lies, in degrees.
 module _ (file : List ℕ) (k n : ℕ) (p : Position) where
@@ -171,7 +206,7 @@ module _ (file : List ℕ) (k n : ℕ) (p : Position) where
   lies-placed : Lies → place file k n ≡ Placed.At p
   lies-placed h =
       let g = h .0 in
-      let known : InDegrees file k n placeLength g = record { d = h .1 .d; describes = h .1 .describes; kind = h .1 .grid; below = h .1 .below; fits = omega arith } in
+      let known : Placeable file k n placeLength (Grid.Degrees g) = record { d = h .1 .d; describes = h .1 .describes; kind = h .1 .grid; below = h .1 .below; fits = omega arith } in
       let passed = degrees-passes file k n placeLength known in
       let measured = taken-measured g (passed .0) (passed .1) in
       ap (placedBy n) (degrees-judged file k n placeLength known) ∙ ap Placed.At (lies-once g n (measured .columns) (measured .rows) (position-lies g n) (h .2))
@@ -197,7 +232,7 @@ module _ (file : List ℕ) (k n : ℕ) (p : SheetPlace) where
 
   rolled-sheet : Rolled → sheet file k n ≡ OnSheet.At p
   rolled-sheet h =
-      let known : OnASheet file k n placeLength (h .0) = record { d = h .1 .d; describes = h .1 .describes; kind = h .1 .grid; below = h .1 .below; fits = omega arith } in
+      let known : Placeable file k n placeLength (Grid.Lambert (h .0)) = record { d = h .1 .d; describes = h .1 .describes; kind = h .1 .grid; below = h .1 .below; fits = omega arith } in
       ap (sheetBy n) (lambert-judged file k n placeLength known) ∙ ap OnSheet.At (sym (h .2))
 
 pub demand-2 : (file : List ℕ) → Demand2 file
@@ -211,4 +246,7 @@ demand-2 file =
       expected = expected file;
       sheets = λ k n p. (sheet-rolled file k n p, rolled-sheet file k n p);
       decodes = decoded file;
+      alone = λ k n d said below. told-alone file k n said below;
+      agree = agrees file;
+      besides = besides file;
     }

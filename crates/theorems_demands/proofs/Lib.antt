@@ -1,6 +1,7 @@
 -- The proofs of what is said of the whole reader.
 pub mod Demand1
 pub mod Numbers
+pub mod Alone
 pub mod Demand2
 pub mod Demand3
 pub mod Rebuild

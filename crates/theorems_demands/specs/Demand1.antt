@@ -26,13 +26,15 @@ use Rattle.section_3.specs.declared.Gridded.the-variants as Gridded
 use Rattle.section_4.specs.declared.Defined.the-variants as Defined
 use Rattle.section_5.specs.declared.Representation.{Representation}
 use Rattle.section_5.specs.declared.Represented.the-variants as Represented
+use Rattle.section_6.specs.declared.Presence.{Presence}
 use Rattle.section_6.specs.declared.Marked.the-variants as Marked
+use Rattle.section_6.specs.Presence.{presentAt, presentBefore}
 use Rattle.section_7.specs.declared.Packed.the-variants as Packed
 use Rattle.doubles.specs.Doubles as Doubles
 use Rattle.values_integers.specs.Integers.{integerAt}
 use Rattle.question.specs.Judged.{identificationOf, gridOf, productOf, representationOf, presenceOf, dataOf}
 use Rattle.question_decode.specs.Decoding.{valuesLeft, presenceLeft}
-use Rattle.theorems_demands.specs.Questions.{Question, verdict, describe, place, sheet, decode, describeInto, placeInto, sheetInto, answered, refused}
+use Rattle.theorems_demands.specs.Questions.{Question, verdict, describe, place, sheet, decode, point, describeInto, placeInto, sheetInto, pointInto, answered, refused}
 
 -- Field k of the file lies at l: the grammar accepts the file, and l is the place of its field k, counted from 0 over all messages.
 pub record FieldAt (file : List ℕ) (k : ℕ) (l : Located) : Type 0 where
@@ -51,6 +53,8 @@ pub data Names : Question → ℕ → Type 0 where
   placesInto : {k n room : ℕ} → Names (placeInto k n room) k
   sheets : {k n : ℕ} → Names (sheet k n) k
   sheetsInto : {k n room : ℕ} → Names (sheetInto k n room) k
+  tells : {k n : ℕ} → Names (point k n) k
+  tellsInto : {k n room : ℕ} → Names (pointInto k n room) k
 
 -- It is about the field of that number, which lies at l.
 pub record About (file : List ℕ) (q : Question) (l : Located) : Type 0 where
@@ -58,14 +62,26 @@ pub record About (file : List ℕ) (q : Question) (l : Located) : Type 0 where
   pub names : Names q k
   pub lies : FieldAt file k l
 
--- What else a question asks. Of a point: the template of the grids that it is about, the point, and for how many numbers there is room; an answer that is handed
--- back has room for its two. Of all values: the start index and the lengths of the runs. Of a description: how many numbers it needs, which is 53 on a grid in
--- degrees and 60 on a Lambert grid, and for how many there is room.
-pub data AsksPoint : Question → (template n room : ℕ) → Type 0 where
-  inDegrees : {k n : ℕ} → AsksPoint (place k n) 0 n 2
-  inDegreesInto : {k n room : ℕ} → AsksPoint (placeInto k n room) 0 n room
-  onSheet : {k n : ℕ} → AsksPoint (sheet k n) 30 n 2
-  onSheetInto : {k n room : ℕ} → AsksPoint (sheetInto k n room) 30 n room
+-- What else a question asks. Of a point: the point, how many numbers tell of it, and for how many there is room; an answer that is handed back has room for its own.
+-- A place is two numbers, and is asked of grids of one template; a value is one, and is asked of any grid. Of all values: the start index and the lengths of the
+-- runs. Of a description: how many numbers it needs, which is 53 on a grid in degrees and 60 on a Lambert grid, and for how many there is room.
+pub data AsksPoint : Question → (n needed room : ℕ) → Type 0 where
+  inDegrees : {k n : ℕ} → AsksPoint (place k n) n 2 2
+  inDegreesInto : {k n room : ℕ} → AsksPoint (placeInto k n room) n 2 room
+  onSheet : {k n : ℕ} → AsksPoint (sheet k n) n 2 2
+  onSheetInto : {k n room : ℕ} → AsksPoint (sheetInto k n room) n 2 room
+  itsValue : {k n : ℕ} → AsksPoint (point k n) n 1 1
+  itsValueInto : {k n room : ℕ} → AsksPoint (pointInto k n room) n 1 room
+
+pub data AsksOf : Question → (template : ℕ) → Type 0 where
+  forPlace : {k n : ℕ} → AsksOf (place k n) 0
+  forPlaceInto : {k n room : ℕ} → AsksOf (placeInto k n room) 0
+  forSheet : {k n : ℕ} → AsksOf (sheet k n) 30
+  forSheetInto : {k n room : ℕ} → AsksOf (sheetInto k n room) 30
+
+pub data AsksValue : Question → (n : ℕ) → Type 0 where
+  aValue : {k n : ℕ} → AsksValue (point k n) n
+  aValueInto : {k n room : ℕ} → AsksValue (pointInto k n room) n
 
 pub data Lends : Question → ℕ → ℕ → ℕ → Type 0 where
   lends : {k start values presence : ℕ} → Lends (decode k start values presence) start values presence
@@ -130,7 +146,7 @@ pub data Applies (file : List ℕ) (q : Question) : (number place : ℕ) → Typ
       gridOf file l ≡ Gridded.On g →
       ((start + pointsOf g ≤ values) × (start + pointsOf g ≤ presence) → ⊥) →
       Applies file q 15 0
-  -- The run is too short for the numbers of a description, or of a place, which are two.
+  -- The run is too short for the numbers of a description, or for those that tell of a point.
   no-room-for-numbers :
       {l : Located} {g : Grid} {needed room : ℕ} →
       About file q l →
@@ -138,7 +154,7 @@ pub data Applies (file : List ℕ) (q : Question) : (number place : ℕ) → Typ
       LendsNumbers q g needed room →
       room < needed →
       Applies file q 15 0
-  no-room-for-place : {l : Located} {template n room : ℕ} → About file q l → AsksPoint q template n room → room < 2 → Applies file q 15 0
+  no-room-for-point : {l : Located} {n needed room : ℕ} → About file q l → AsksPoint q n needed room → room < needed → Applies file q 15 0
   -- One of the N integers X that decode rebuilds is below 0 or above 2,147,483,647.
   out-of-range :
       {l : Located} {r : Representation} {start values presence m : ℕ} →
@@ -148,19 +164,31 @@ pub data Applies (file : List ℕ) (q : Question) : (number place : ℕ) → Typ
       m < r .n →
       Doubles.isInRange (integerAt file (l .starts .seven .0) r m) ≡ false →
       Applies file q 16 (l .starts .seven .0)
+  -- Point n is present, and one of the integers X(1) to X(m) is so, where X(m) is the point's own: as many points are present before it as integers come before X(m).
+  out-of-range-up-to :
+      {l : Located} {g : Grid} {r : Representation} {p : Presence} {n j : ℕ} →
+      About file q l →
+      AsksValue q n →
+      gridOf file l ≡ Gridded.On g →
+      representationOf file l ≡ Represented.By r →
+      presenceOf file l (pointsOf g) (r .n) ≡ Marked.As p →
+      presentAt file p (pointsOf g) n ≡ 1 →
+      j ≤ presentBefore file p (pointsOf g) n →
+      Doubles.isInRange (integerAt file (l .starts .seven .0) r j) ≡ false →
+      Applies file q 16 (l .starts .seven .0)
   -- The field has no point n.
   no-such-point :
-      {l : Located} {g : Grid} {template n room : ℕ} →
+      {l : Located} {g : Grid} {n needed room : ℕ} →
       About file q l →
-      AsksPoint q template n room →
+      AsksPoint q n needed room →
       gridOf file l ≡ Gridded.On g →
       pointsOf g ≤ n →
       Applies file q 17 0
   -- The grid is of the other kind: the question is about grids of another template.
   other-grid :
-      {l : Located} {g : Grid} {template n room : ℕ} →
+      {l : Located} {g : Grid} {template : ℕ} →
       About file q l →
-      AsksPoint q template n room →
+      AsksOf q template →
       gridOf file l ≡ Gridded.On g →
       (templateOf g ≡ template → ⊥) →
       Applies file q 20 0

@@ -8,6 +8,8 @@ use mathlib.Core.Logic.{_↔_}
 use lib.IntN.{pos}
 use lib.ListN.{length, getD}
 use lib.Ieee.{Float, nan, fin}
+use Rattle.refusals.specs.declared.Why.the-variants as Why
+use Rattle.refusals.specs.Refusals.{refusal}
 use Rattle.tiling_sections.specs.declared.Located.{Located}
 use Rattle.tiling.specs.declared.Checked.the-variants as Checked
 use Rattle.tiling.specs.Tiling.{check}
@@ -22,28 +24,20 @@ use Rattle.section_3_positions.specs.Positions.{LiesAt}
 use Rattle.section_3_positions.specs.Expected.{AsExpected}
 use Rattle.section_3_lambert.specs.declared.SheetPlace.{SheetPlace}
 use Rattle.section_3_lambert.specs.Sheet.{sheetOf}
-use Rattle.doubles.specs.Doubles.{valueOf}
 use Rattle.question.specs.declared.Description.{Description}
 use Rattle.question.specs.declared.Described.the-variants as Described
 use Rattle.question.specs.Describe.{describe}
-use Rattle.question.specs.Judge.{integerOf}
 use Rattle.question.specs.Judged.{Judged}
 use Rattle.question_place.specs.declared.Placed.the-variants as Placed
 use Rattle.question_place.specs.declared.OnSheet.the-variants as OnSheet
 use Rattle.question_place.specs.Place.{place, sheet}
 use Rattle.question_decode.specs.declared.Decoded as declared
 use Rattle.question_decode.specs.declared.Decoded.the-variants as Decoded
-use Rattle.question_decode.specs.Decoding.{presentOf, rankOf, answer, valuesLeft, presenceLeft}
+use Rattle.question_decode.specs.Decoding.{presentOf, answer, valuesLeft, presenceLeft}
+use Rattle.question_point.specs.Point.{point}
 use Rattle.theorems_demands.specs.Demand1.{FieldAt}
+use Rattle.theorems_demands.specs.Alone.{Present, Alone, Agrees}
 use Rattle.theorems_demands.specs.Numbers.{InNumbers}
-
--- A point that is present: as many points are present before it as integers are packed before its own, which is the standard's X, in its range; and the
--- double that is written is that of R, E, D and X.
-pub record Present (file : List ℕ) (d : Description) (i : ℕ) (written : Float) : Type 0 where
-  pub x : ℕ
-  pub standard : integerOf file d (rankOf file d i) ≡ pos x
-  pub inRange : x ≤ 2147483647
-  pub double : written ≡ valueOf (d .representation .r) (d .representation .e) (d .representation .d) x
 
 -- Point i, by the two elements that are written for it. Its mark is the bitmap's bit, or 1 where all are present; a missing point has +0.
 pub record Point (file : List ℕ) (d : Description) (i : ℕ) (written : Float) (mark : ℕ) : Type 0 where
@@ -116,3 +110,12 @@ pub record Demand2 (file : List ℕ) : Type 0 where
   pub sheets : (k n : ℕ) (p : SheetPlace) → (sheet file k n ≡ OnSheet.At p) ↔ ((g : LambertGrid) × HasPoint file k n (Grid.Lambert g) × (p ≡ sheetOf g n))
   -- A call of decode that answers with a count has decoded field k, whose points they are.
   pub decodes : (c : Call) (n : ℕ) → answerTo file c ≡ Decoded.Points n → (d : Description) × Decodes file c (leftBehind file c) d × (pointsOf (d .grid) ≡ n)
+  -- Point n of field k, asked alone, is told by its own integer and by those before it.
+  pub alone : (k n : ℕ) (d : Description) → describe file k ≡ Described.As d → n < pointsOf (d .grid) → Alone file d n (point file k n)
+  -- Where decode answers, both agree for every n.
+  pub agree : (c : Call) (n i : ℕ) → answerTo file c ≡ Decoded.Points n → i < n → Agrees (point file (c .k) i) (valueIn (leftBehind file c) (c .start + i)) (markIn (leftBehind file c) (c .start + i))
+  -- Where decode refuses with 16, field k is described, and its points are told alone as above; a point that is refused is refused at the same place.
+  pub besides :
+      (c : Call) (place : ℕ) →
+      answerTo file c ≡ Decoded.Refused (refusal Why.ValueOutOfRange place) →
+      (d : Description) × (describe file (c .k) ≡ Described.As d) × (place ≡ d .starts .seven .0) × ((n : ℕ) → n < pointsOf (d .grid) → Alone file d n (point file (c .k) n))

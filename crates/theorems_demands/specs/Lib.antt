@@ -2,6 +2,7 @@
 pub mod Questions
 pub mod Demand1
 pub mod Numbers
+pub mod Alone
 pub mod Demand2
 pub mod Demand3
 pub mod Rebuild

@@ -1,5 +1,5 @@
 -- RULES, "Examples on either side" and "Listing": the file of 276 octets with two fields, the file with the first of them alone, that field on a grid whose
--- steps do not lead to its last point, and that field on a Lambert grid.
+-- steps do not lead to its last point, that field on a Lambert grid, and a field that decode refuses with 16.
 use Prim.Native.Nat.{ℕ}
 use mathlib.Core.List.{List, [], _∷_, _++_}
 
@@ -85,7 +85,24 @@ abbrev rain7 : List ℕ
 rain7 =
     0x00 ∷ 0x00 ∷ 0x00 ∷ 0x08 ∷ 0x07 ∷ 0x00 ∷ 0x50 ∷ 0x07 ∷ []
 
--- The file with both fields, the one with the first alone, the one with the first in a row, and the one with the first on a sheet.
+-- The field that strays: by template 5.3, with the bitmap 0xB0, the first value 5, the second 7, Zmin -20, and the zeros of one group. So the third integer is
+-- -20 + 2 x 7 - 5, which is below 0.
+abbrev strayed5 : List ℕ
+strayed5 =
+    0x00 ∷ 0x00 ∷ 0x00 ∷ 0x31 ∷ 0x05 ∷ 0x00 ∷ 0x00 ∷ 0x00 ∷ 0x03 ∷ 0x00 ∷ 0x03 ∷ 0x00 ∷ 0x00 ∷ 0x00 ∷ 0x00 ∷ 0x00 ∷
+    0x00 ∷ 0x00 ∷ 0x00 ∷ 0x00 ∷ 0x00 ∷ 0x01 ∷ 0x00 ∷ 0xff ∷ 0xff ∷ 0xff ∷ 0xff ∷ 0xff ∷ 0xff ∷ 0xff ∷ 0xff ∷ 0x00 ∷
+    0x00 ∷ 0x00 ∷ 0x01 ∷ 0x02 ∷ 0x00 ∷ 0x00 ∷ 0x00 ∷ 0x00 ∷ 0x00 ∷ 0x01 ∷ 0x00 ∷ 0x00 ∷ 0x00 ∷ 0x03 ∷ 0x00 ∷ 0x02 ∷
+    0x01 ∷ []
+
+abbrev strayed6 : List ℕ
+strayed6 =
+    0x00 ∷ 0x00 ∷ 0x00 ∷ 0x07 ∷ 0x06 ∷ 0x00 ∷ 0xb0 ∷ []
+
+abbrev strayed7 : List ℕ
+strayed7 =
+    0x00 ∷ 0x00 ∷ 0x00 ∷ 0x09 ∷ 0x07 ∷ 0x05 ∷ 0x07 ∷ 0x94 ∷ 0x00 ∷ []
+
+-- The file with both fields, the one with the first alone, the one with the first in a row, the one with the first on a sheet, and the one with the field that strays.
 unfoldable pub twoFields : List ℕ
 twoFields = section0 0x01 0x14 ++ section1 ++ section3 ++ temperature4 ++ temperature5 ++ temperature6 ++ temperature7 ++ rain4 ++ rain5 ++ rain6 ++ rain7 ++ section8
 
@@ -97,3 +114,6 @@ fieldInARow = section0 0x00 0xb7 ++ section1 ++ rowOfFour ++ temperature4 ++ tem
 
 unfoldable pub fieldOnASheet : List ℕ
 fieldOnASheet = section0 0x00 0xc0 ++ section1 ++ fourOnASheet ++ temperature4 ++ temperature5 ++ temperature6 ++ temperature7 ++ section8
+
+unfoldable pub strayedField : List ℕ
+strayedField = section0 0x00 0xd4 ++ section1 ++ section3 ++ temperature4 ++ strayed5 ++ strayed6 ++ strayed7 ++ section8

@@ -6,6 +6,7 @@ use Rattle.question.proofs as question
 use Rattle.question_numbers.proofs as question-numbers
 use Rattle.question_place.proofs as question-place
 use Rattle.question_decode.proofs as question-decode
+use Rattle.question_point.proofs as question-point
 use Rattle.skeptolyr.proofs as skeptolyr
 use Rattle.listing_lines.proofs as listing-lines
 use Rattle.listing_file.proofs as listing-file
@@ -34,6 +35,21 @@ question-place-on-degrees _ 𝓤 _ _ _ _ _ _ _ _ _ _ _ _ = one 𝓤 (λ p q. (al
 pub question-place-on-lambert : Determined question-place.on_lambert.ended (λ _. question-place.on_lambert.clauses)
 question-place-on-lambert _ 𝓤 _ _ _ _ _ _ _ _ _ _ _ _ = one 𝓤 (λ p q. (alike p q, refl))
 
+-- Whether a point is there, and whether its run is long enough.
+pub question-place-point-asked : Determined question-place.point_asked.ended (λ _. question-place.point_asked.clauses)
+question-place-point-asked _ 𝓤 _ _ _ _ _ _ _ _ _ _ _ _ = one 𝓤 (λ p q. (alike p q, refl))
+
+-- The value of a point, or that it is missing.
+pub question-point-point : Determined question-point.point.ended (λ _. question-point.point.clauses)
+question-point-point _ 𝓤 _ _ _ _ _ _ _ _ _ _ _ _ = one 𝓤 (λ p q. (alike p q, refl))
+
+pub question-point-point-into : Determined question-point.point_into.ended (λ _. question-point.point_into.clauses)
+question-point-point-into _ 𝓤 _ _ _ _ _ _ _ _ _ _ _ _ = one 𝓤 (λ p q. (alike p q, refl))
+
+-- The packing record of a field.
+pub question-decode-packing-of : Determined question-decode.packing_of.ended (λ _. question-decode.packing_of.clauses)
+question-decode-packing-of _ 𝓤 _ _ _ _ _ _ _ _ _ _ _ _ = one 𝓤 (λ p q. (alike p q, refl))
+
 -- What is answered, and both runs afterwards.
 pub question-decode-decode : Determined question-decode.decode.ended (λ _. question-decode.decode.clauses)
 question-decode-decode _ 𝓤 _ _ _ _ _ _ _ _ _ _ _ _ =
@@ -56,6 +72,10 @@ skeptolyr-skeptolyr-place _ 𝓤 _ _ _ _ _ _ _ _ _ _ _ _ = two 𝓤 (λ p q. (al
 
 pub skeptolyr-skeptolyr-sheet : Determined skeptolyr.skeptolyr_sheet.ended (λ _. skeptolyr.skeptolyr_sheet.clauses)
 skeptolyr-skeptolyr-sheet _ 𝓤 _ _ _ _ _ _ _ _ _ _ _ _ = two 𝓤 (λ p q. (alike (p .0) (q .0), λ i. (tt, (tt, (tt, (alike (p .1) (q .1) i, tt))))))
+
+-- What C is answered, and the run of one value afterwards.
+pub skeptolyr-skeptolyr-point : Determined skeptolyr.skeptolyr_point.ended (λ _. skeptolyr.skeptolyr_point.clauses)
+skeptolyr-skeptolyr-point _ 𝓤 _ _ _ _ _ _ _ _ _ _ _ _ = two 𝓤 (λ p q. (alike (p .0) (q .0), λ i. (tt, (tt, (tt, (alike (p .1) (q .1) i, tt))))))
 
 -- The numbers of a description and of a place, put into a lent run: where they end, and what the run holds afterwards.
 pub question-numbers-put-description : Determined question-numbers.put_description.ended (λ _. question-numbers.put_description.clauses)

@@ -17,8 +17,8 @@ use Rattle.values_points.proofs.Laws.{past-same, past-then}
 use Rattle.values_integers.specs.Integers.{integer, areInRange}
 use Rattle.section_7.specs.declared.Groups.{Groups}
 use Rattle.values_complex.specs.declared.Start.{Start}
-use Rattle.values_complex.specs.Complex.{startOf, groupAt, valuesIn, integerIn, sizeIn, Sound, GroupWritten}
-use Rattle.values_complex.proofs.Joined.{workedIn, group-passed, group-ends, group-field, two-kept, range-kept, next-start}
+use Rattle.values_complex.specs.Complex.{startOf, groupAt, valuesIn, integerIn, sizeIn, workedIn, Sound, GroupWritten}
+use Rattle.values_complex.proofs.Joined.{group-passed, group-ends, group-field, two-kept, range-kept, next-start}
 
 module _ (run : List ℕ) (g : Groups) where
   -- The values before group i, and at least the first two: so many integers are worked out.

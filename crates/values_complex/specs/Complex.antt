@@ -1,5 +1,5 @@
 -- RULES, "Section 7", complex packing: the groups of a field, one after the other, and the integers X of the field.
-use Prim.Native.Nat.{ℕ, _+_, _-_, _*_, _≤_, _<_, _^_}
+use Prim.Native.Nat.{ℕ, suc, _+_, _-_, _*_, _≤_, _<_, _^_}
 use mathlib.Core.Path.{_≡_}
 use mathlib.Core.Bool.{true, cond}
 use mathlib.Core.List.{List}
@@ -12,11 +12,14 @@ use Rattle.doubles.specs.declared.Packing.{Packing}
 use Rattle.values_points.specs.Written.{Marks, Runs, Written}
 use Rattle.values_group.specs.declared.Group.{Group}
 use Rattle.values_group.specs.declared.Latest.{Latest}
+use Rattle.values_group.specs.declared.Worked.{Worked}
 use Rattle.values_group.specs.Group.{integersOf}
 use Rattle.values_integers.specs.Integers.{referenceOf, storedAt, integer, areInRange}
-use Rattle.values_integers.specs.Worked.{raisedBy, loweredBy}
+use Rattle.values_integers.specs.Worked.{raisedBy, loweredBy, worked}
 use Rattle.section_7.specs.declared.Groups.{Groups}
 use Rattle.values_complex.specs.declared.Reached.{Reached}
+use Rattle.values_complex.specs.declared.Single as declaredSingle
+use Rattle.values_complex.specs.declared.Single.the-variants as Single
 use Rattle.values_complex.specs.declared.Start.{Start}
 
 -- Where the groups are known by their section's octets: all values in them, and the integer X of value m.
@@ -31,9 +34,17 @@ module _ (run : List ℕ) (g : Groups) where
   abbrev pub sizeIn : ℕ → ℕ
   sizeIn m = natAbs (integerIn m)
 
+  -- What is worked out behind the second value and so many more.
+  abbrev pub workedIn : ℕ → Worked
+  workedIn m = worked (g .differencing) (storedAt run (g .layout) (g .bits) (g .grouping)) m
+
   -- Every integer of the field is in its range.
   abbrev pub AllInRange : Type 0
   AllInRange = areInRange integerIn valuesIn ≡ true
+
+-- RULES, "One point": the integer numbered m alone, which is told where none up to it is out of its range.
+abbrev pub singleOf : (ℕ → ℤ) → ℕ → declaredSingle.Single
+singleOf x m = cond (areInRange x (suc m)) (Single.Is (natAbs (x m))) Single.Out
 
 -- The packed numbers of the first two values are there and not used. Where so many values stand before a group of such a length, that many of
 -- its own are among the first two.
@@ -58,6 +69,10 @@ module _ (run : List ℕ) (g : Groups) (i : ℕ) where
         lowered = loweredBy (g .differencing .zmin);
         count = lengthOf run (g .layout) (g .grouping) i - skippedHere;
       }
+
+-- The first numbers of a group, and no more than `most` of them.
+abbrev pub firstOf : Group → ℕ → Group
+firstOf g most = record { from = g .from; width = g .width; base = g .base; lowered = g .lowered; count = cond (ltb most (g .count)) most (g .count) }
 
 -- What section 5 and the plan of section 7 have judged before.
 pub record Sound (run : List ℕ) (g : Groups) : Type 0 where

@@ -1,13 +1,13 @@
-// Complex packing with second differences (5.3): the groups of a field one after the other, judged in a first pass that writes nothing, and
-// written in a second one.
+// Complex packing with second differences (5.3): the groups of a field one after the other, judged in a first pass that writes nothing, and written in a second one;
+// and one integer of a field, which the first pass alone finds.
 ghost use mathlib.Core.Path.{_≡_};
-ghost use Prim.Native.Nat.{_+_, _<_};
+ghost use Prim.Native.Nat.{_+_, _≤_, _<_};
 ghost use lib.ListN.{length};
 ghost use Rattle.values_points.specs.Written.{marksIn, lent, left, Room, PointsLeft, Filled};
 ghost use Rattle.values_group.specs.Group.{Limits, GroupKept, GroupGoes};
 ghost use Rattle.values_integers.specs.Worked.{raisedBy, loweredBy};
 ghost use Rattle.values_integers.specs.Integers.{areInRange};
-ghost use Rattle.values_complex.specs.Complex.{skipped, startOf, groupAt, valuesIn, integerIn, sizeIn, AllInRange, Sound, latestOf, GroupWritten};
+ghost use Rattle.values_complex.specs.Complex.{skipped, startOf, groupAt, firstOf, valuesIn, integerIn, sizeIn, workedIn, singleOf, AllInRange, Sound, latestOf, GroupWritten};
 use doubles::Packing;
 use octets::BitPlace;
 use octets::Signed;
@@ -33,6 +33,12 @@ pub struct Reached {
     pub x: u64,
     pub before: u64,
     pub point: usize,
+}
+
+// One integer of a field, or that it or one before it is out of its range.
+pub enum Single {
+    Is(u32),
+    Out,
 }
 
 // What Zmin adds.
@@ -93,44 +99,93 @@ fn group_at(section: &[u8], groups: Groups, i: u32, start: Start) -> Met
     }
 }
 
-// Is every integer X of the field from 0 to 2,147,483,647? It writes nothing.
-pub fn is_in_range(section: &[u8], groups: Groups) -> bool
-    requires { ⌜ Sound (now section) groups ⌝ }
-    ensures { λ r. ⌜ r ≡ areInRange (integerIn (now (section .entry)) groups) (valuesIn (now (section .entry)) groups) ⌝ }
+// The first numbers of a group, and no more than `most` of them.
+fn first_of(group: Group, most: u64) -> Group
+    ensures { λ r. ⌜ r ≡ firstOf group most ⌝ }
+{
+    Group {
+        from: group.from,
+        width: group.width,
+        base: group.base,
+        lowered: group.lowered,
+        count: if most < group.count {
+            most
+        } else {
+            group.count
+        },
+    }
+}
+
+// Works out so many integers behind the second, group by group, and stops at one that is out of its range. It writes nothing, and looks at nothing behind them.
+fn worked_to(section: &[u8], groups: Groups, wanted: u64) -> Worked
+    requires { ⌜ (Sound (now section) groups) × (wanted + 2 ≤ valuesIn (now section) groups) ⌝ }
+    requires { ⌜ (groups .differencing .first ≤ 2147483647) × (groups .differencing .second ≤ 2147483647) ⌝ }
+    ensures { λ r. ⌜ r ≡ workedIn (now (section .entry)) groups wanted ⌝ }
 {
     let layout = groups.layout;
-    let grouping = groups.grouping;
     let differencing = groups.differencing;
     let mut x = differencing.second as u64;
     let mut before = differencing.first as u64;
-    if 2147483647 < x {
-        return false;
-    }
-    if 2147483647 < before {
-        return false;
-    }
-    let first = octets::first_bit(layout.packed);
-    let mut start = Start {
-        values: 0,
-        bit: first,
-    };
+    let bit = octets::first_bit(layout.packed);
+    let mut start = Start { values: 0, bit };
     let mut i: u32 = 0;
-    while i < grouping.groups {
+    let mut left = wanted;
+    while 0 < left {
         let met = group_at(section, groups, i, start);
-        let group = met.group;
+        let group = first_of(met.group, left);
         let Worked::Kept {
             x: last,
             before: previous,
         } = values_group::judge(section, group, x, before)
         else {
-            return false;
+            return Worked::Out;
         };
         x = last;
         before = previous;
         start = met.next;
         i += 1;
+        left -= group.count;
     }
-    true
+    Worked::Kept { x, before }
+}
+
+// Is every integer X of the field from 0 to 2,147,483,647? There are n of them.
+pub fn is_in_range(section: &[u8], groups: Groups, n: u64) -> bool
+    requires { ⌜ (Sound (now section) groups) × (n ≡ valuesIn (now section) groups) ⌝ }
+    ensures { λ r. ⌜ r ≡ areInRange (integerIn (now (section .entry)) groups) n ⌝ }
+{
+    let differencing = groups.differencing;
+    if 2147483647 < differencing.first {
+        return false;
+    }
+    if 2147483647 < differencing.second {
+        return false;
+    }
+    match worked_to(section, groups, n - 2) {
+        Worked::Kept { x: _, before: _ } => true,
+        Worked::Out => false,
+    }
+}
+
+// The integer numbered m of the field, where none up to it is out of its range. Those behind it are not looked at: for the first, the second is not.
+pub fn integer_at(section: &[u8], groups: Groups, m: u64) -> Single
+    requires { ⌜ (Sound (now section) groups) × (m < valuesIn (now section) groups) ⌝ }
+    ensures { λ r. ⌜ r ≡ singleOf (integerIn (now (section .entry)) groups) m ⌝ }
+{
+    let differencing = groups.differencing;
+    if 2147483647 < differencing.first {
+        return Single::Out;
+    }
+    if m == 0 {
+        return Single::Is(differencing.first);
+    }
+    if 2147483647 < differencing.second {
+        return Single::Out;
+    }
+    match worked_to(section, groups, m - 1) {
+        Worked::Kept { x, before: _ } => Single::Is(x as u32),
+        Worked::Out => Single::Out,
+    }
 }
 
 // Writes the group's integers to the next points that are present, and +0 to those missing before each: a block at a time.

@@ -15,7 +15,7 @@ pub fn block_length(left: u64) -> usize
 }
 
 // Is a point present? Where the bitmap is empty, every one is.
-fn is_present(bitmap: &[u8], point: usize) -> bool
+pub fn is_present(bitmap: &[u8], point: usize) -> bool
     requires { ⌜ Covers (now bitmap) (point + 1) ⌝ }
     ensures { λ r. ⌜ r ≡ eqb (marksIn (now (bitmap .entry)) .mark point) 1 ⌝ }
 {
@@ -23,6 +23,17 @@ fn is_present(bitmap: &[u8], point: usize) -> bool
         return true;
     }
     bits::bit_in(bitmap, BitPlace(point)) == 1
+}
+
+// How many points before this one are present.
+pub fn rank_of(bitmap: &[u8], point: usize) -> usize
+    requires { ⌜ Covers (now bitmap) point ⌝ }
+    ensures { λ r. ⌜ r ≡ marksIn (now (bitmap .entry)) .rank point ⌝ }
+{
+    if bitmap.len() == 0 {
+        return point;
+    }
+    bits_ones::ones_before(bitmap, point)
 }
 
 // Writes +0 to the points that are missing from `point` on, up to the next that is present or to the end, and answers where it stopped.

@@ -11,6 +11,19 @@ use doubles::Packing;
 use octets::BitPlace;
 use octets::OctetNumber;
 
+// The integer numbered m of the field.
+pub fn integer_at(section: &[u8], bits: u32, m: u64) -> u32
+    requires { ⌜ (bits ≤ 31) × (m ≤ 16777216) ⌝ }
+    ensures { λ r. ⌜ r ≡ simpleInteger (now (section .entry)) bits m ⌝ }
+{
+    let first = octets::first_bit(OctetNumber(6));
+    bits::read_bits(
+        section,
+        BitPlace(first.0 + m as usize * bits as usize),
+        bits,
+    )
+}
+
 // Puts numbers into a block one by one, from element `from` on. The first of them stands at a place.
 fn unpack_each(section: &[u8], bits: u32, first: BitPlace, from: usize, block: &mut [u32])
     requires { ⌜ (first .0 ≤ 2199023255552) × (bits ≤ 31) × (from ≤ length (now block)) × (length (now block) ≤ 4294967296) ⌝ }

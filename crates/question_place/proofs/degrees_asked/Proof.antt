@@ -2,7 +2,7 @@
 use mathlib.Core.Path.{_≡_, sym, ap, _∙_}
 use borrow.Author.Needs.{needs}
 use Rattle.section_3_geometry.specs.declared.Grid.the-variants as Grid
-use Rattle.question_place.specs.Place.{pointAsked, degreesIf, degreesAsked}
+use Rattle.question_place.specs.Place.{placeLength, pointAsked, degreesIf, degreesAsked}
 use Rattle.question_place.specs.declared.OnDegrees.the-variants as OnDegrees
 use Rattle.question_place.proofs.degrees_asked.Statement.{statement}
 use Rattle.question_place.proofs.degrees_asked.Tie as tie
@@ -25,12 +25,12 @@ point-asked-requires c κs = rw (c .before .grid .given .1) at (c .before .befor
 -- Behind the test of its kind the grid is known, and the point decides.
 by-point : (c : tie.After-known-told) →
     let a = c .before .before .before .args in
-    degreesAsked (a .n) (a .room) (a .grid) ≡ degreesIf (c .before .grid .given .0 .0) (pointAsked (a .n) (a .room) (Grid.Degrees (c .before .grid .given .0 .0)))
+    degreesAsked (a .n) (a .room) (a .grid) ≡ degreesIf (c .before .grid .given .0 .0) (pointAsked (a .n) placeLength (a .room) (Grid.Degrees (c .before .grid .given .0 .0)))
 by-point c = let a = c .before .before .before .args in ap (degreesAsked (a .n) (a .room)) (c .before .grid .given .1)
 
 asked-is : (c : tie.After-point-asked) →
     let a = c .before .before .before .before .args in
-    pointAsked (a .n) (a .room) (Grid.Degrees (c .before .before .grid .given .0 .0)) ≡ c .point-asked .result
+    pointAsked (a .n) placeLength (a .room) (Grid.Degrees (c .before .before .grid .given .0 .0)) ≡ c .point-asked .result
 asked-is c = sym (c .point-asked .ensures)
 
 enum-told-2 : tie.Need-enum-told-2

@@ -3,10 +3,11 @@ use mathlib.Core.Path.{_≡_, sym, ap, _∙_}
 use native.Mathlib.Omega.{arith}
 use borrow.Author.Needs.{needs}
 use Rattle.section_3_geometry.proofs.Laws.{taken-measured}
+use Rattle.section_3_geometry.specs.declared.Grid.the-variants as Grid
 use Rattle.question_place.specs.Place.{placeLength, onDegrees, placedBy}
 use Rattle.question_place.specs.declared.OnDegrees.the-variants as OnDegrees
 use Rattle.question_place.specs.declared.Placed.the-variants as Placed
-use Rattle.question_place.proofs.Laws.{InDegrees, judged-degrees, degrees-passes}
+use Rattle.question_place.proofs.Laws.{Placeable, judged-degrees, degrees-passes}
 use Rattle.question_place.proofs.place.Statement.{statement}
 use Rattle.question_place.proofs.place.Tie as tie
 
@@ -20,7 +21,7 @@ enum-known-grid c = search needs
 said : (c : tie.After-known-told) → let a = c .before .before .before .before .before .args in onDegrees (a .file .now) (a .k) (a .n) placeLength ≡ OnDegrees.Grid (c .before .grid .given .0 .0)
 said c = sym (c .before .before .before .on-degrees .ensures) ∙ c .before .grid .given .1
 
-known : (c : tie.After-known-told) → let a = c .before .before .before .before .before .args in InDegrees (a .file .now) (a .k) (a .n) placeLength (c .before .grid .given .0 .0)
+known : (c : tie.After-known-told) → let a = c .before .before .before .before .before .args in Placeable (a .file .now) (a .k) (a .n) placeLength (Grid.Degrees (c .before .grid .given .0 .0))
 known c = let a = c .before .before .before .before .before .args in judged-degrees (a .file .now) (a .k) (a .n) placeLength (said c)
 
 cast-position-of : tie.Need-cast-position-of

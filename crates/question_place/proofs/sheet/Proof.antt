@@ -3,10 +3,11 @@ use mathlib.Core.Path.{_≡_, sym, ap, _∙_}
 use native.Mathlib.Omega.{arith}
 use borrow.Author.Needs.{needs}
 use Rattle.section_3_lambert.proofs.Laws.{taken-measured}
+use Rattle.section_3_geometry.specs.declared.Grid.the-variants as Grid
 use Rattle.question_place.specs.Place.{placeLength, onLambert, sheetBy}
 use Rattle.question_place.specs.declared.OnLambert.the-variants as OnLambert
 use Rattle.question_place.specs.declared.OnSheet.the-variants as OnSheet
-use Rattle.question_place.proofs.Laws.{OnASheet, judged-lambert, lambert-passes}
+use Rattle.question_place.proofs.Laws.{Placeable, judged-lambert, lambert-passes}
 use Rattle.question_place.proofs.sheet.Statement.{statement}
 use Rattle.question_place.proofs.sheet.Tie as tie
 
@@ -20,7 +21,7 @@ enum-known-grid c = search needs
 said : (c : tie.After-known-told) → let a = c .before .before .before .before .before .args in onLambert (a .file .now) (a .k) (a .n) placeLength ≡ OnLambert.Grid (c .before .grid .given .0 .0)
 said c = sym (c .before .before .before .on-lambert .ensures) ∙ c .before .grid .given .1
 
-known : (c : tie.After-known-told) → let a = c .before .before .before .before .before .args in OnASheet (a .file .now) (a .k) (a .n) placeLength (c .before .grid .given .0 .0)
+known : (c : tie.After-known-told) → let a = c .before .before .before .before .before .args in Placeable (a .file .now) (a .k) (a .n) placeLength (Grid.Lambert (c .before .grid .given .0 .0))
 known c = let a = c .before .before .before .before .before .args in judged-lambert (a .file .now) (a .k) (a .n) placeLength (said c)
 
 cast-sheet-of : tie.Need-cast-sheet-of

@@ -4,10 +4,11 @@ use native.Mathlib.Omega.{arith}
 use borrow.Author.Needs.{needs}
 use lib.ListN.{length}
 use Rattle.question_numbers.proofs.Held.{placed-held}
+use Rattle.section_3_geometry.specs.declared.Grid.the-variants as Grid
 use Rattle.question_place.specs.declared.OnDegrees.the-variants as OnDegrees
 use Rattle.question_place.specs.Place.{onDegrees}
 use Rattle.section_3_geometry.proofs.Laws.{taken-measured}
-use Rattle.question_place.proofs.Laws.{InDegrees, judged-degrees, degrees-passes, degrees-placed}
+use Rattle.question_place.proofs.Laws.{Placeable, judged-degrees, degrees-passes, degrees-placed}
 use Rattle.skeptolyr.specs.Codes.{numbersCode, numbersLeft, placedAs}
 use Rattle.skeptolyr.proofs.skeptolyr_place.Statement.{statement}
 use Rattle.skeptolyr.proofs.skeptolyr_place.Tie as tie
@@ -26,7 +27,7 @@ said c = sym (c .before .before .before .on-degrees .ensures) ∙ c .before .gri
 
 is-known : (c : tie.After-known-told) →
     let a = c .before .before .before .before .before .args in
-    InDegrees (a .file .now) (a .k) (a .n) (length (a .position .now)) (c .before .grid .given .0 .0)
+    Placeable (a .file .now) (a .k) (a .n) (length (a .position .now)) (Grid.Degrees (c .before .grid .given .0 .0))
 is-known c = let a = c .before .before .before .before .before .args in judged-degrees (a .file .now) (a .k) (a .n) (length (a .position .now)) (said c)
 
 cast-position-of : tie.Need-cast-position-of

@@ -3,10 +3,11 @@ use mathlib.Core.Path.{_≡_, sym, ap, _∙_}
 use native.Mathlib.Omega.{arith}
 use borrow.Author.Needs.{needs}
 use lib.ListN.{length}
+use Rattle.section_3_geometry.specs.declared.Grid.the-variants as Grid
 use Rattle.question_place.specs.declared.OnLambert.the-variants as OnLambert
 use Rattle.question_numbers.proofs.Held.{sheet-held}
 use Rattle.question_place.specs.Place.{onLambert}
-use Rattle.question_place.proofs.Laws.{OnASheet, judged-lambert, lambert-passes, lambert-placed}
+use Rattle.question_place.proofs.Laws.{Placeable, judged-lambert, lambert-passes, lambert-placed}
 use Rattle.section_3_lambert.proofs.Laws.{taken-measured}
 use Rattle.skeptolyr.specs.Codes.{numbersCode, numbersLeft, sheetAs}
 use Rattle.skeptolyr.proofs.skeptolyr_sheet.Statement.{statement}
@@ -26,7 +27,7 @@ said c = sym (c .before .before .before .on-lambert .ensures) ∙ c .before .gri
 
 is-known : (c : tie.After-known-told) →
     let a = c .before .before .before .before .before .args in
-    OnASheet (a .file .now) (a .k) (a .n) (length (a .place .now)) (c .before .grid .given .0 .0)
+    Placeable (a .file .now) (a .k) (a .n) (length (a .place .now)) (Grid.Lambert (c .before .grid .given .0 .0))
 is-known c = let a = c .before .before .before .before .before .args in judged-lambert (a .file .now) (a .k) (a .n) (length (a .place .now)) (said c)
 
 cast-sheet-of : tie.Need-cast-sheet-of

@@ -105,7 +105,7 @@ write-group-requires c κs =
     let long = lengths l in
     let room = next-room section groups (s .pre .0) (s .pre .1 .0) (ranked bitmap) passed here in
     rw (c .before .before .before .before .group-at .ensures .0) (
-      (kept-limits section groups (passed .kept) here (s .pre .0), next-kept section groups (s .pre .0) (s .pre .1 .0) (ranked bitmap) passed here),
+      (kept-limits section groups _ (passed .kept) here (s .pre .0), next-kept section groups (s .pre .0) (s .pre .1 .0) (ranked bitmap) passed here),
       (
         (
           (omega (arith, long), omega (arith, long, s .pre .1 .1 .0 .1), λ some. omega (arith, long, s .pre .1 .1 .0 .2 some)),

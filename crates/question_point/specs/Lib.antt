@@ -1,0 +1,2 @@
+-- The question about the value of one point.
+pub mod Point
