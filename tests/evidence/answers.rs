@@ -33,6 +33,11 @@ impl Answer {
         Answer { octets, written: Some(put) }
     }
 
+    /// The answer of point, which writes one element whether the point is present or missing, with the run as it lies in memory.
+    pub fn of_value(is_present: u64, run: &[f64]) -> Answer {
+        Answer { written: Some(1), ..Answer::of_runs(is_present, run, &[]) }
+    }
+
     pub fn code(&self) -> u64 {
         code(&self.octets)
     }
@@ -96,6 +101,10 @@ macro_rules! answers_of {
                 Question::Sheet { k, n, length } => {
                     let mut sheet_place = $crate::answers::untouched_numbers(length);
                     $decoder::sheet_into(file, k, n, &mut sheet_place).map(|put| Answer::of_numbers(put, &sheet_place))
+                }
+                Question::Point { k, n, length } => {
+                    let (mut value, _) = $crate::answers::untouched_runs(length, 0);
+                    $decoder::point_into(file, k, n, &mut value).map(|is_present| Answer::of_value(is_present, &value))
                 }
                 Question::Decode { k, start, values_length, presence_length } => {
                     let (mut values, mut presence) = $crate::answers::untouched_runs(values_length, presence_length);

@@ -12,6 +12,7 @@ pub enum Question {
     Describe { k: u64, length: u64 },
     Place { k: u64, n: u64, length: u64 },
     Sheet { k: u64, n: u64, length: u64 },
+    Point { k: u64, n: u64, length: u64 },
     Decode { k: u64, start: u64, values_length: u64, presence_length: u64 },
 }
 
@@ -60,6 +61,11 @@ pub fn placed(k: u64, n: u64) -> [Question; 2] {
     [Question::Place { k, n, length: POSITION + 1 }, Question::Sheet { k, n, length: SHEET_PLACE + 1 }]
 }
 
+/// The value of a point, with a double to spare in the run, and where it lies.
+pub fn pointed(k: u64, n: u64) -> impl Iterator<Item = Question> {
+    std::iter::once(Question::Point { k, n, length: 2 }).chain(placed(k, n))
+}
+
 /// Check, and decode of the field whose turn it is.
 fn check_and_decode(points: &[u64], turn: usize) -> Vec<Question> {
     let k = turn % points.len();
@@ -68,7 +74,7 @@ fn check_and_decode(points: &[u64], turn: usize) -> Vec<Question> {
 
 fn whole_file(file: &[u8], take: &mut dyn FnMut(Case) -> bool) -> bool {
     let fields = (0..).zip(point_counts(file));
-    let each = fields.flat_map(|(k, points)| [described(k), whole(k, points)].into_iter().chain(placed(k, points - 1)));
+    let each = fields.flat_map(|(k, points)| [described(k), whole(k, points)].into_iter().chain((0..points).flat_map(move |n| pointed(k, n))));
     ask("small base", &Rc::new(file.to_vec()), std::iter::once(Question::Check).chain(each).collect(), take)
 }
 
@@ -92,10 +98,18 @@ fn octet_changes(file: &[u8], take: &mut dyn FnMut(Case) -> bool) -> bool {
     (0..255 * file.len()).all(|number| {
         let mut changed = file.to_vec();
         changed[number / 255] = changed[number / 255].wrapping_add((number % 255) as u8 + 1);
-        let (changed, k) = (Rc::new(changed), (number % points.len()) as u64);
+        let (changed, k, turn) = (Rc::new(changed), number % points.len(), number / points.len());
+        let one_point = point_in_turn(k as u64, points[k], turn as u64);
         ask("octet changed", &changed, check_and_decode(&points, number), take)
-            && ask("octet changed, described", &changed, vec![Question::Describe { k, length: length_in_turn(number as u64) }], take)
+            && ask("octet changed, described", &changed, vec![Question::Describe { k: k as u64, length: length_in_turn(number as u64) }], take)
+            && ask("octet changed, one point", &changed, vec![one_point], take)
     })
+}
+
+/// The value of one point after another, and of the one behind the last. In one turn of sixteen there is no room, and in half of the others some to spare.
+fn point_in_turn(k: u64, points: u64, turn: u64) -> Question {
+    let length = if turn % 16 == 0 { 0 } else { 1 + turn / 16 % 2 };
+    Question::Point { k, n: turn % (points + 1), length }
 }
 
 /// Runs on either side of what a field needs from a start on, and a few other lengths.
@@ -126,21 +140,22 @@ fn numbers_past(points: &[u64]) -> Vec<Question> {
     let mut found = Vec::new();
     for k in (0..fields + 3).chain(far()) {
         found.extend([described(k), whole(k, points[0])]);
-        found.extend(placed(k, 0));
+        found.extend(pointed(k, 0));
     }
     for (k, points) in (0..).zip(points) {
         let near = (0..points + 3).chain(far());
-        found.extend(near.flat_map(|n| placed(k, n)));
+        found.extend(near.flat_map(|n| pointed(k, n)));
     }
     found
 }
 
-/// Describe, place and sheet of field k, and of points at and past their count, in runs of every length on either side of what is needed.
+/// Describe of field k, and place, sheet and point of points at and past their count, in runs of every length on either side of what is needed.
 fn lengths_of_numbers(k: u64, points: u64) -> Vec<Question> {
     let mut found: Vec<Question> = (0..=DESCRIPTION_LAMBERT + 7).map(|length| Question::Describe { k, length }).collect();
     for n in [0, points - 1, points, u64::MAX] {
         found.extend((0..=POSITION + 3).map(|length| Question::Place { k, n, length }));
         found.extend((0..=SHEET_PLACE + 3).map(|length| Question::Sheet { k, n, length }));
+        found.extend((0..=3).map(|length| Question::Point { k, n, length }));
     }
     found
 }
@@ -205,13 +220,21 @@ fn point(random: &mut Random, points: u64) -> u64 {
     }
 }
 
+/// The value of a point: the first or the second, one near the end of a block of 56 or of a word of the bitmap, or any of those above.
+fn value_of_point(random: &mut Random, k: u64, points: u64) -> Question {
+    let near = *random.choose(&[0, 1, 55, 56, 57, 63, 64, 65, 111, 112, 113]);
+    let n = if random.chance(1, 3) && near < points { near } else { point(random, points) };
+    Question::Point { k, n, length: length_for(random, 1) }
+}
+
 /// All questions about field k. Of the two kinds of grid it has one, and the run for its description is of a length for either.
 fn about_field(random: &mut Random, k: u64, points: u64) -> Vec<Question> {
     let needed = *random.choose(&[DESCRIPTION, DESCRIPTION_LAMBERT]);
     let description = Question::Describe { k, length: length_for(random, needed) };
     let place = Question::Place { k, n: point(random, points), length: length_for(random, POSITION) };
     let sheet = Question::Sheet { k, n: point(random, points), length: length_for(random, SHEET_PLACE) };
-    vec![description, decode(random, k, points), place, sheet]
+    let (one, other) = (value_of_point(random, k, points), value_of_point(random, k, points));
+    vec![description, decode(random, k, points), one, other, place, sheet]
 }
 
 /// All questions about every field, and about one past the last or far past it.

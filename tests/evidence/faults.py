@@ -11,6 +11,31 @@ NOT_DEGREES, NOT_LAMBERT, FOUND = 'GridKind::Lambert(_)' + OTHER, 'GridKind::Deg
 LENGTHS, ON_IT = '(column * u64::from(self.dx), row * u64::from(self.dy))', '(right as i64, down as i64)'
 DX, DY = 'require((1..=LARGEST_31_BITS).contains(&dx))?;', 'require((1..=LARGEST_31_BITS).contains(&dy))?;'
 OF_LAMBERT = '[30, self.stated_latitude, i64::from(self.upright_meridian), dx, dy, cutting, other_cutting]'
+# How a point is opened, how its element is found, what a missing point does, and its value.
+POINT_OPENED, ELEMENT = 'let OpenField { presence, packing, .. } = open_in_file(file, k)?;', 'let element = value.first_mut().ok_or(Refusal::without_place(15))?;'
+NO_POINT, NOT_PRESENT = 'if n >= presence.points {', 'if !presence.is_present(n) {'
+VALUE, BEFORE = '*element = packing.value(packing.integer_behind(presence.present_before(n))?);', 'presence.present_before(n)'
+# How the X of one point is looked for.
+ANOTHER, SKIPPED = 'let is_another_wanted = left > 0;', 'values.behind(others, self.representation.bits)'
+LOOKED_FOR = 'let (mut found, mut left) = (None, others);'
+OWN_ALONE = '''let (mut packed, mut before_last, mut last, mut undone) = (data.packed, 0i64, 0i64, 0u64);
+    for group in data.groups {
+        for _ in 0..group.length {
+            let y = i64::from(packed.read(group.width as u8)) + group.reference + data.z_min;
+            let x = match undone {
+                0 => data.first_value,
+                1 => data.second_value,
+                _ => y.wrapping_add(last.wrapping_mul(2)).wrapping_sub(before_last),
+            };
+            if undone == others {
+                return if (0..=LARGEST_X).contains(&x) { Some(x as u32) } else { None };
+            }
+            before_last = last;
+            last = x;
+            undone += 1;
+        }
+    }
+    '''
 # Refuses a run that has no room for so many numbers.
 NO_ROOM = 'if %s.len() < %d {\n        return Err(Refusal::without_place(15));\n    }\n    '
 
@@ -112,7 +137,7 @@ FAULTS = [
      'let z_min = (unsigned(cut(&mut rest, value_octets)?) << (64 - 8 * value_octets)) as i64 >> (64 - 8 * value_octets);'),
     ('each group starts on a new octet', 'packing.rs', 'for group in data.groups {', 'for group in data.groups {\n            data.packed.bit_place = (data.packed.bit_place + 7) / 8 * 8;'),
     ('the first two packed values are not there', 'packing.rs', 'i64::from(data.packed.read(group.width as u8))',
-     'i64::from(if integers.len() < 2 { 0 } else { data.packed.read(group.width as u8) })'),
+     'i64::from(if undone < 2 { 0 } else { data.packed.read(group.width as u8) })'),
     ('differences are of the first order', 'packing.rs', 'y + 2 * last - before_last', 'y + last'),
     ('an X below 0 is taken', 'packing.rs', '(0..=LARGEST_X).contains(&x)', 'x <= LARGEST_X'),
     ('an X of 2,147,483,648 is taken', 'packing.rs', 'LARGEST_X: i64 = 2_147_483_647', 'LARGEST_X: i64 = 2_147_483_648'),
@@ -158,6 +183,37 @@ FAULTS = [
     ('down is told before right', 'description.rs', ON_IT, '(down as i64, right as i64)'),
     ('a place on the sheet wraps at 32 bits', 'description.rs', ON_IT, '(i64::from(right as u32), i64::from(down as u32))'),
     ('a place on the sheet is told in metres', 'description.rs', ON_IT, '(right as i64 / 1000, down as i64 / 1000)'),
+    # ---- one point
+    ('a point behind the last has a value', 'lib.rs', NO_POINT, 'if n > presence.points {'),
+    ('the number of a point wraps at 32 bits', 'lib.rs', NO_POINT, 'let n = n & 0xFFFF_FFFF;\n    ' + NO_POINT),
+    ('the point is counted among the points before it', 'lib.rs', BEFORE, 'presence.present_before(n + 1)'),
+    ('the points before a point are counted without the bitmap', 'lib.rs', BEFORE, 'n'),
+    ('the bits of the last octet are not counted', 'lib.rs', BEFORE, 'presence.present_before(n / 8 * 8)'),
+    ('a point has the value of the one before it', 'lib.rs', BEFORE, 'presence.present_before(n).saturating_sub(1)'),
+    ('a point has the value of the next', 'lib.rs', BEFORE, 'presence.present_before((n + 1).min(presence.points - 1))'),
+    ('a missing point is refused by 16', 'lib.rs', NOT_PRESENT, NOT_PRESENT + '\n        packing.integers()?;'),
+    ('a missing point is judged up to the next that is present', 'lib.rs', NOT_PRESENT,
+     NOT_PRESENT + '\n        if presence.present_before(n) < presence.present_points() {\n            packing.integer_behind(presence.present_before(n))?;\n        }'),
+    ('X is judged behind the point', 'lib.rs', VALUE, 'packing.integers()?;\n    ' + VALUE),
+    ('one X more is judged than the point needs', 'packing.rs', ANOTHER, 'let is_another_wanted = found.is_none() || left > 0;'),
+    ('of the X up to a point only its own is judged', 'packing.rs', LOOKED_FOR, OWN_ALONE + LOOKED_FOR),
+    ('the second value is judged for the first point', 'packing.rs', 'grouped_integer_behind(data, others).ok_or_else',
+     'grouped_integer_behind(data, others.max(1)).and(grouped_integer_behind(data, others)).ok_or_else'),
+    ('the numbers before a point are skipped by octets', 'packing.rs', SKIPPED, 'values.behind(others, (self.representation.bits + 7) / 8 * 8)'),
+    ('the numbers before a point are skipped with 32 bits', 'packing.rs', 'self.bit_place + numbers * u64::from(bits)',
+     'self.bit_place + u64::from((numbers as u32).wrapping_mul(u32::from(bits)))'),
+    ('the element of a missing point is left as it was', 'lib.rs', '*element = 0.0;', ''),
+    ('a missing point is given -0', 'lib.rs', '*element = 0.0;', '*element = -0.0;'),
+    ('a missing point is told as present', 'lib.rs', '*element = 0.0;\n        return Ok(0);', '*element = 0.0;\n        return Ok(1);'),
+    ('a missing point needs no room', 'lib.rs', ELEMENT, 'if value.is_empty() && !presence.is_present(n) {\n        return Ok(0);\n    }\n    ' + ELEMENT),
+    ('a short run for a point is refused before all else', 'lib.rs', POINT_OPENED, NO_ROOM % ('value', 1) + POINT_OPENED),
+    ('15 is tried before 17 for a point', 'lib.rs', NO_POINT, NO_ROOM % ('value', 1) + NO_POINT),
+    ('16 is tried before 15 for a point', 'lib.rs', ELEMENT,
+     'if presence.is_present(n) {\n        packing.integer_behind(presence.present_before(n))?;\n    }\n    ' + ELEMENT),
+    ('16 is tried before 17 for a point', 'lib.rs', NO_POINT, 'packing.integer_behind(0)?;\n    ' + NO_POINT),
+    ('a point of a Lambert grid is refused', 'lib.rs', POINT_OPENED,
+     POINT_OPENED + '\n    if let GridKind::Lambert(_) = describe(file, k)?.grid.kind {\n        return Err(Refusal::without_place(20));\n    }'),
+    ('what lies behind the value of a point is cleared', 'lib.rs', ELEMENT, 'value.iter_mut().skip(1).for_each(|other| *other = 0.0);\n    ' + ELEMENT),
     # ---- what C is given
     ('latitudes are told by their sizes', 'description.rs', '[self.latitude, i64::from(self.longitude)]', '[self.latitude.abs(), i64::from(self.longitude)]'),
     ('N is told as the point count', 'description.rs', 'numbers.extend([i64::from(self.n),', 'numbers.extend([self.grid.points() as i64,'),

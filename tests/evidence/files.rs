@@ -28,7 +28,7 @@ pub fn vast(random: &mut Random) -> Vec<u8> {
     let refused = [(65_536, 256), (65_536, 1), (1, 65_536), (4_096, 4_097), (65_535, 257), (257, 65_281), (65_535, 65_535)];
     let (ni, nj) = if random.chance(2, 3) { *random.choose(&taken) } else { *random.choose(&refused) };
     let section5 = Section5 { count: ni * nj, scaling: scaling(random), bits: 0, groups: None };
-    one_field(random, (ni, nj), section5.octets(), section7(&[], 0, 0))
+    one_field(random, (ni, nj), [section5.octets(), section6(255, &[]), section7(&[], 0, 0)])
 }
 
 /// A file at a limit or one step past it, and otherwise consistent.
@@ -40,16 +40,20 @@ pub fn at_a_limit(random: &mut Random) -> Vec<u8> {
 /// A file whose one field is refused by 16 and by nothing else.
 pub fn straying(random: &mut Random) -> Vec<u8> {
     let (ni, nj) = (random.between(1, 7) as u32, random.between(2, 4) as u32);
-    let scaling = scaling(random);
-    let (section5, section7) = groups::straying_sections(random, scaling, (ni * nj) as usize);
-    one_field(random, (ni, nj), section5, section7)
+    let (scaling, points) = (scaling(random), (ni * nj) as usize);
+    let (section6, count) = match section_of_presence(random, points, &mut None) {
+        (_, 0..=1) => (section6(255, &[]), points),
+        presence => presence,
+    };
+    let (section5, section7) = groups::straying_sections(random, scaling, count);
+    one_field(random, (ni, nj), [section5, section6, section7])
 }
 
-/// All points of a grid present.
-fn one_field(random: &mut Random, (ni, nj): (u32, u32), section5: Vec<u8>, section7: Vec<u8>) -> Vec<u8> {
+/// One field, given by its sections 5 to 7.
+fn one_field(random: &mut Random, (ni, nj): (u32, u32), [section5, section6, section7]: [Vec<u8>; 3]) -> Vec<u8> {
     let reference = reference_second(random);
     let grid = vec![section1(random, reference), section3(random, ni, nj)];
-    Message::of([grid, vec![section4(random, reference), section5, section6(255, &[]), section7]].concat()).octets()
+    Message::of([grid, vec![section4(random, reference), section5, section6, section7]].concat()).octets()
 }
 
 fn message(random: &mut Random) -> Vec<u8> {

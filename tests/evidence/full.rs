@@ -1,6 +1,6 @@
 //! A field at the Agency's full size: the independent decoder has to find the integers that were packed, and proved code has to answer as it does.
 use crate::answers_of;
-use crate::cases::{described, placed, Case, Question};
+use crate::cases::{described, pointed, Case, Question};
 use crate::lender::Lender;
 use std::fs;
 use std::io;
@@ -16,10 +16,11 @@ fn integers_of(path: &str) -> io::Result<Vec<u32>> {
     Ok(octets.chunks_exact(4).map(|octets| octets.iter().fold(0, |number, octet| number << 8 | u32::from(*octet))).collect())
 }
 
-/// Every question about the one field of a file: the whole field, the same with a run that is one element too short, its first points and its last.
+/// Every question about the one field of a file: the whole field, the same with a run that is one element too short, its first points, some at the ends
+/// of a group and of a block, and its last.
 fn questions(points: u64) -> Vec<Question> {
     let decode = |spare: u64| Question::Decode { k: 0, start: START, values_length: START + points + spare - 1, presence_length: START + points };
-    let near_ends = [0, 1, points / 2, points - 1, points].into_iter().flat_map(|n| placed(0, n));
+    let near_ends = [0, 1, 31, 32, 55, 56, 57, points / 2, points - 1, points].into_iter().flat_map(|n| pointed(0, n));
     [Question::Check, described(0), decode(0), decode(SPARE)].into_iter().chain(near_ends).collect()
 }
 

@@ -1,12 +1,13 @@
 //! Files on either side of the largest size that is taken, 268,435,456 octets. They are zero but for the heads of their sections.
-use crate::cases::{described, placed, Case, Question};
+use crate::cases::{described, pointed, Case, Question};
 use crate::make::{number, section6, Point, Scaling, Section1, Section3, Section3Lambert, Section4, Section5};
 use std::rc::Rc;
 
 const MOST_OCTETS: usize = 268_435_456;
 const HEADER: usize = 16;
 const END: &[u8] = b"7777";
-/// The points of the last field.
+/// The points of the first field, which are as many as a field can have, and of the last.
+const LARGEST_FIELD: u64 = 4096 * 4096;
 const LAST_POINTS: u32 = 8;
 
 /// The sections of one field on a grid of its own, but for the octets of section 7 behind its first five, which are zero.
@@ -63,7 +64,7 @@ fn message(length: usize) -> (Vec<u8>, u64) {
     (file, fields.len() as u64)
 }
 
-/// The largest file that is taken, with its first and its last two fields; the same with an octet behind it; and zeros of both lengths.
+/// The largest file that is taken, with its first and its last two fields, and points at the ends of the first; the same with an octet behind it; and zeros of both lengths.
 pub fn largest(take: &mut dyn FnMut(Case) -> bool) {
     let (taken, fields) = message(MOST_OCTETS);
     let mut over = taken.clone();
@@ -73,8 +74,9 @@ pub fn largest(take: &mut dyn FnMut(Case) -> bool) {
     let decode = |k| Question::Decode { k, start: 3, values_length: room, presence_length: room };
     for file in &files {
         let decodes = [0, fields - 1, fields].map(decode);
-        let numbers = [fields - 2, fields - 1].into_iter().flat_map(|k| [described(k)].into_iter().chain(placed(k, 1)));
-        for question in [Question::Check].into_iter().chain(numbers).chain(decodes) {
+        let numbers = [fields - 2, fields - 1].into_iter().flat_map(|k| [described(k)].into_iter().chain(pointed(k, 1)));
+        let points = [0, 1, LARGEST_FIELD - 1, LARGEST_FIELD].map(|n| Question::Point { k: 0, n, length: 1 });
+        for question in [Question::Check].into_iter().chain(numbers).chain(points).chain(decodes) {
             take(Case { kind: "the largest size", file: Rc::clone(file), question });
         }
     }

@@ -62,6 +62,7 @@ impl Lender {
             Question::Describe { k, length } => [3, k, 0, 0, length, 0],
             Question::Place { k, n, length } => [4, k, n, 0, length, 0],
             Question::Sheet { k, n, length } => [5, k, n, 0, length, 0],
+            Question::Point { k, n, length } => [6, k, n, 0, length, 0],
         };
         self.write_numbers(&question)?;
         self.write_numbers(&[answer.written.unwrap_or(NONE)])?;

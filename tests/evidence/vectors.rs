@@ -20,16 +20,17 @@ fn hexadecimal(octets: &[u8]) -> String {
     octets.iter().map(|octet| format!("{:02x}", octet)).collect()
 }
 
-/// The questions that the program puts about one file: those of decode, describe, place and sheet, about the same field. Place and sheet are asked about the
-/// same point, in runs of the same length.
+/// The questions that the program puts about one file: those of decode, describe, place, sheet and point, about the same field. Place, sheet and point are
+/// asked about the same point, in runs of the same length.
 struct Asked {
     decode: Case,
     describe: Case,
     place: Case,
     sheet: Case,
+    point: Case,
 }
 
-/// Describe, place and sheet beside a question to decode, in runs whose lengths, and of a point whose number, change from turn to turn.
+/// Describe, place, sheet and point beside a question to decode, in runs whose lengths, and of a point whose number, change from turn to turn.
 fn asked(decode: &Case, k: u64, turn: u64) -> Asked {
     let about_file = |question: Question| Case { kind: decode.kind, file: Rc::clone(&decode.file), question };
     Asked {
@@ -37,6 +38,7 @@ fn asked(decode: &Case, k: u64, turn: u64) -> Asked {
         describe: about_file(Question::Describe { k, length: length_in_turn(turn) }),
         place: about_file(Question::Place { k, n: turn % 7, length: turn % 5 }),
         sheet: about_file(Question::Sheet { k, n: turn % 7, length: turn % 5 }),
+        point: about_file(Question::Point { k, n: turn % 7, length: turn % 5 }),
     }
 }
 
@@ -56,11 +58,11 @@ fn octets_of(asked: &Asked) -> Option<Vec<u8>> {
     }
 }
 
-/// Decode's answer and every element of both runs, untouched where decode is refused.
-fn words_of_runs(decode: Answer, values_length: u64, presence_length: u64) -> Vec<String> {
-    let mut words = vec![hexadecimal(&decode.octets[..8])];
+/// The answer of decode and every element of both runs, or of point and every double of its run, untouched where it is refused.
+fn words_of_runs(answer: Answer, values_length: u64, presence_length: u64) -> Vec<String> {
+    let mut words = vec![hexadecimal(&answer.octets[..8])];
     let (values, presence) = untouched_runs(values_length, presence_length);
-    let runs = if decode.written.is_some() { decode.octets } else { Answer::of_runs(0, &values, &presence).octets };
+    let runs = if answer.written.is_some() { answer.octets } else { Answer::of_runs(0, &values, &presence).octets };
     let (doubles, marks) = runs[8..].split_at(8 * values_length as usize);
     for octets in doubles.chunks(8) {
         let bits = octets.try_into().map(u64::from_ne_bytes).expect("eight octets");
@@ -86,10 +88,11 @@ fn line(asked: &Asked) -> String {
     let by_reference = answers_of!(reference);
     let check = Case { kind: asked.decode.kind, file: Rc::clone(&asked.decode.file), question: Question::Check };
     let mut words = vec![hexadecimal(&by_reference(&check).octets)];
-    for case in [&asked.decode, &asked.describe, &asked.place, &asked.sheet] {
+    for case in [&asked.decode, &asked.describe, &asked.place, &asked.sheet, &asked.point] {
         words.extend(match case.question {
             Question::Decode { values_length, presence_length, .. } => words_of_runs(by_reference(case), values_length, presence_length),
             Question::Describe { length, .. } | Question::Place { length, .. } | Question::Sheet { length, .. } => words_of_numbers(by_reference(case), length),
+            Question::Point { length, .. } => words_of_runs(by_reference(case), length, 0),
             Question::Check => vec![],
         });
     }

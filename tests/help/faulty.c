@@ -7,6 +7,7 @@
 #undef skeptolyr_describe
 #undef skeptolyr_place
 #undef skeptolyr_sheet
+#undef skeptolyr_point
 #include "skeptolyr.h"
 
 #include <stdlib.h>
@@ -17,6 +18,7 @@ uint64_t faulty_decode(const uint8_t *file, size_t file_len, size_t k, size_t st
 uint64_t faulty_describe(const uint8_t *file, size_t file_len, size_t k, int64_t *numbers, size_t numbers_len);
 uint64_t faulty_place(const uint8_t *file, size_t file_len, size_t k, size_t n, int64_t *position, size_t position_len);
 uint64_t faulty_sheet(const uint8_t *file, size_t file_len, size_t k, size_t n, int64_t *place, size_t place_len);
+uint64_t faulty_point(const uint8_t *file, size_t file_len, size_t k, size_t n, double *value, size_t value_len);
 
 /* In the order of tests/help/faulty.py's table. */
 enum {
@@ -44,7 +46,16 @@ enum {
     /* of sheet */
     SHEET_OF_POINT_0, SHEET_SWAPPED, DOWN_IS_UPWARD, DOWN_BY_DX, COLUMNS_BY_NJ, SHEET_IN_32_BITS, SHEET_IN_METRES, SHEET_BEHIND_LAST, SHEET_ON_DEGREES,
     SHEET_POINT_BEFORE_GRID, SHEET_ROOM_BEFORE_GRID, SHEET_WRITES_BEHIND, SHEET_WRITES_BESIDE, SHEET_ROOM_FIRST, SHEET_ROOM_BEFORE_POINT,
-    SHEET_PUTS_WHAT_FITS, SHEET_WRITES_AND_REFUSES
+    SHEET_PUTS_WHAT_FITS, SHEET_WRITES_AND_REFUSES,
+    /* of the value of a point */
+    VALUE_OF_FIELD_0, VALUE_OF_POINT_0, RANK_THROUGH_POINT, VALUE_OF_NEXT, VALUE_CHANGES_A_BIT, VALUE_CHANGES_EVERY_SECOND,
+    /* of a point that is missing */
+    MISSING_IS_PRESENT, MISSING_MINUS_ZERO, MISSING_LEFT, MISSING_REFUSED, MISSING_WITHOUT_ROOM,
+    /* of what is refused for a point */
+    JUDGES_BEHIND, JUDGES_THE_SECOND, RANGE_WITHOUT_PLACE, VALUE_BEHIND_LAST, POINT_REFUSES_LAMBERT, POINT_ROOM_FIRST, POINT_ROOM_BEFORE_POINT,
+    POINT_ROOM_AFTER_RANGE,
+    /* of what point writes */
+    POINT_WRITES_BEHIND, POINT_WRITES_BESIDE, POINT_WRITES_AND_REFUSES
 };
 
 /* Where numbers of a description stand. */
@@ -446,5 +457,133 @@ uint64_t faulty_sheet(const uint8_t *file, size_t file_len, size_t k, size_t n, 
         return sheet_refused(answer, file, file_len, k, n, place, place_len);
     change_sheet_place(file, file_len, k, n, place);
     write_more(place, place_len, SKEPTOLYR_SHEET_PLACE, fault() == SHEET_WRITES_BEHIND, fault() == SHEET_WRITES_BESIDE);
+    return answer;
+}
+
+/* ---- a point */
+
+/* A field and a point of it, as they are asked about. */
+struct asked {
+    const uint8_t *file;
+    size_t file_len, k, n;
+};
+
+/* What the library answers of point `n` of the field, with a run of one element. */
+static uint64_t point_of_field(const struct asked *q, size_t n, double *value)
+{
+    return skeptolyr_point(q->file, q->file_len, q->k, n, value, 1);
+}
+
+/* What decode answers of the field in runs that have room, so that it refuses nothing behind 14 but 16. */
+static uint64_t decode_with_room(const struct asked *q)
+{
+    int64_t own[SKEPTOLYR_DESCRIPTION_LAMBERT];
+    uint64_t described = skeptolyr_describe(q->file, q->file_len, q->k, own, SKEPTOLYR_DESCRIPTION_LAMBERT);
+    if (skeptolyr_is_refusal(described))
+        return described;
+    return decode_elsewhere(q->file, q->file_len, q->k, 0, (size_t)own[POINTS], (size_t)own[POINTS]);
+}
+
+/* What the library answers of the first point behind `n` that is present, or 17 where there is none. */
+static uint64_t next_present(const struct asked *q, size_t n, double *value)
+{
+    uint64_t answer = point_of_field(q, ++n, value);
+    while (answer == 0)
+        answer = point_of_field(q, ++n, value);
+    return answer;
+}
+
+static int is_first_present(const struct asked *q)
+{
+    double value;
+    size_t before = 0;
+    while (before < q->n && point_of_field(q, before, &value) == 0)
+        before++;
+    return before == q->n;
+}
+
+static int is_on_cone(const struct asked *q)
+{
+    int64_t own[SKEPTOLYR_DESCRIPTION_LAMBERT];
+    return skeptolyr_describe(q->file, q->file_len, q->k, own, SKEPTOLYR_DESCRIPTION_LAMBERT) == SKEPTOLYR_DESCRIPTION_LAMBERT;
+}
+
+/* What a call comes to that the library answers with a value. Where the fault refuses, the element has to be as it was. */
+static uint64_t point_present(const struct asked *q, double *value, int is_second)
+{
+    double given, other = 0;
+    uint64_t answer = point_of_field(q, q->n, &given), behind = 0;
+    if (fault() == RANK_THROUGH_POINT || (fault() == JUDGES_THE_SECOND && is_first_present(q)))
+        behind = next_present(q, q->n, &other);
+    if (fault() == VALUE_OF_NEXT && point_of_field(q, q->n + 1, &other) == 1)
+        given = other;
+    if (fault() == RANK_THROUGH_POINT && behind == 1)
+        given = other;
+    if (fault() == JUDGES_BEHIND)
+        behind = decode_with_room(q);
+    if (is_refused_by(behind, SKEPTOLYR_VALUE_OUT_OF_RANGE))
+        return behind;
+    if (fault() == VALUE_CHANGES_A_BIT || (fault() == VALUE_CHANGES_EVERY_SECOND && is_second))
+        ((uint8_t *)&given)[0] ^= 1;
+    *value = given;
+    return answer;
+}
+
+/* What a call comes to that the library answers as missing. */
+static uint64_t point_missing(const struct asked *q, double *value)
+{
+    uint64_t decoded = fault() == MISSING_REFUSED ? decode_with_room(q) : 0;
+    if (skeptolyr_is_refusal(decoded))
+        return decoded;
+    if (fault() != MISSING_LEFT)
+        *value = fault() == MISSING_MINUS_ZERO ? -0.0 : 0.0;
+    return fault() == MISSING_IS_PRESENT;
+}
+
+/* What a call comes to that the library refuses because the run has no element. */
+static uint64_t point_without_room(const struct asked *q, uint64_t answer)
+{
+    double value;
+    uint64_t with_room = point_of_field(q, q->n, &value);
+    int is_missing = fault() == MISSING_WITHOUT_ROOM && with_room == 0;
+    return is_missing || (fault() == POINT_ROOM_AFTER_RANGE && is_refused_by(with_room, SKEPTOLYR_VALUE_OUT_OF_RANGE)) ? with_room : answer;
+}
+
+/* What a refused call to point comes to. */
+static uint64_t point_refused(const struct asked *q, uint64_t answer, double *value, size_t value_len)
+{
+    if (is_refused_by(answer, SKEPTOLYR_NO_ROOM))
+        return point_without_room(q, answer);
+    if (fault() == RANGE_WITHOUT_PLACE && is_refused_by(answer, SKEPTOLYR_VALUE_OUT_OF_RANGE))
+        return refusal(SKEPTOLYR_VALUE_OUT_OF_RANGE, 0);
+    if (fault() == POINT_ROOM_BEFORE_POINT && is_refused_by(answer, SKEPTOLYR_NO_SUCH_POINT) && value_len == 0)
+        return refusal(SKEPTOLYR_NO_ROOM, 0);
+    if (fault() == VALUE_BEHIND_LAST && is_refused_by(answer, SKEPTOLYR_NO_SUCH_POINT))
+        return skeptolyr_point(q->file, q->file_len, q->k, q->n - 1, value, value_len);
+    if (fault() == POINT_WRITES_AND_REFUSES && value_len > 0)
+        value[value_len - 1] = 0;
+    return answer;
+}
+
+uint64_t faulty_point(const uint8_t *file, size_t file_len, size_t k, size_t n, double *value, size_t value_len)
+{
+    static unsigned int calls;
+    int is_second = calls++ % 2;
+    struct asked q = {file, file_len, fault() == VALUE_OF_FIELD_0 ? 0 : k, fault() == VALUE_OF_POINT_0 ? 0 : n};
+    double given;
+    if (fault() == POINT_ROOM_FIRST && value_len == 0)
+        return refusal(SKEPTOLYR_NO_ROOM, 0);
+    if (fault() < VALUE_OF_FIELD_0)
+        return skeptolyr_point(file, file_len, k, n, value, value_len);
+    uint64_t answer = skeptolyr_point(file, file_len, q.k, q.n, &given, value_len > 0);
+    if (fault() == POINT_REFUSES_LAMBERT && !skeptolyr_is_refusal(answer) && is_on_cone(&q))
+        return refusal(SKEPTOLYR_OTHER_GRID, 0);
+    if (skeptolyr_is_refusal(answer))
+        return point_refused(&q, answer, value, value_len);
+    answer = answer == 0 ? point_missing(&q, value) : point_present(&q, value, is_second);
+    if (fault() == POINT_WRITES_BEHIND)
+        value[value_len] = 0;
+    if (fault() == POINT_WRITES_BESIDE && value_len > 1)
+        value[1] = 0;
     return answer;
 }

@@ -84,8 +84,31 @@ FAULTS = [
     'sheet refuses a short run before a point that is not there',
     'sheet puts as many numbers as there is room for',
     'sheet writes and refuses',
+    'point gives the value of field 0 for every field',
+    'point gives the value of point 0 for every point',
+    'the rank of a point is counted through its own bit',
+    'point gives the value of the next point',
+    'the last bit of the value of a point is another',
+    'the last bit of the value of a point is another the second time',
+    'a missing point is told as present',
+    'a missing point is given -0',
+    'the element of a missing point is left as it was',
+    'a missing point is refused where decode refuses with 16',
+    'a missing point needs no room',
+    'X is judged behind the point',
+    'the second value is judged for the first point that is present',
+    'point refuses an integer that is out of range without a place',
+    'a point behind the last has a value',
+    'point refuses a Lambert grid',
+    'point refuses a short run before all else',
+    'point refuses a short run before a point that is not there',
+    'point refuses an integer that is out of range before a short run',
+    'point writes behind the run',
+    'point writes behind its element',
+    'point writes and refuses',
 ]
-# The numbers of the faults of describe, place and sheet.
-OF_NUMBERS = range(FAULTS.index('describe gives field 0 for every field'), len(FAULTS))
+# The numbers of the faults of describe, place and sheet, and of those of point.
+OF_NUMBERS = range(FAULTS.index('describe gives field 0 for every field'), FAULTS.index('point gives the value of field 0 for every field'))
+OF_POINT = range(OF_NUMBERS.stop, len(FAULTS))
 # The words that have a compiler call the faulty functions in the library's place.
-RENAMED = ['-Dskeptolyr_%s=faulty_%s' % (name, name) for name in ('check', 'decode', 'describe', 'place', 'sheet')]
+RENAMED = ['-Dskeptolyr_%s=faulty_%s' % (name, name) for name in ('check', 'decode', 'describe', 'place', 'sheet', 'point')]

@@ -1,10 +1,11 @@
-/* Puts each question of standard input to one of the five functions of skeptolyr.h, and writes the answer and every lent run whole.
+/* Puts each question of standard input to one of the six functions of skeptolyr.h, and writes the answer and every lent run whole.
  *
- * A question is its kind (1 check, 2 decode, 3 describe, 4 place, 5 sheet), k, n, start, the lengths of two runs, how many elements of each run are to be
- * written from `start` on (2^64 - 1 where the call is to be refused), the file's length, the number of its patches, and each patch: its place, its length,
- * its octets. Between its patches a file is zero. The length 2^64 - 1 stands for the file of the question before. Numbers have eight octets, the first
- * counting most. Decode is lent a run of doubles and one of presence, describe, place and sheet a run of numbers, which start at its first element, and
- * check none. What is written is the answer, in eight octets likewise, and where elements are to be written every element of each run, as it lies in memory.
+ * A question is its kind (1 check, 2 decode, 3 describe, 4 place, 5 sheet, 6 point), k, n, start, the lengths of two runs, how many elements of each run
+ * are to be written from `start` on (2^64 - 1 where the call is to be refused), the file's length, the number of its patches, and each patch: its place,
+ * its length, its octets. Between its patches a file is zero. The length 2^64 - 1 stands for the file of the question before. Numbers have eight octets, the
+ * first counting most. Decode is lent a run of doubles and one of presence, point a run of doubles, describe, place and sheet a run of numbers, each of which
+ * starts at its first element, and check none. What is written is the answer, in eight octets likewise, and where elements are to be written every element of
+ * each run, as it lies in memory.
  *
  * Whatever a call has no business with cannot be reached, and touching it ends the program. The file lies in memory that can only be read, once
  * right behind an unreadable page and once right before one. The runs of a call that is to be refused lie in memory that can be neither read nor
@@ -17,7 +18,7 @@
 #include <string.h>
 #include <unistd.h>
 
-enum { CHECK = 1, DECODE = 2, DESCRIBE = 3, PLACE = 4, SHEET = 5, MOST_RUNS = 2, MOST_PATCHES = 64, UNTOUCHED = 0xa5 };
+enum { CHECK = 1, DECODE = 2, DESCRIBE = 3, PLACE = 4, SHEET = 5, POINT = 6, MOST_RUNS = 2, MOST_PATCHES = 64, UNTOUCHED = 0xa5 };
 
 static const uint64_t none = UINT64_MAX;
 
@@ -143,7 +144,7 @@ static int get_question(struct question *q)
         demand(q->lengths[i] <= run_room / (i == 0 ? sizeof(double) : 1), "a run is too long");
     }
     q->written = number();
-    demand(q->kind >= CHECK && q->kind <= SHEET, "there is no such question");
+    demand(q->kind >= CHECK && q->kind <= POINT, "there is no such question");
     for (int i = 0; i < runs_of(q); i++)
         demand(q->written == none || (q->start <= q->lengths[i] && q->written <= q->lengths[i] - q->start), "the stretch is outside the run");
     return 1;
@@ -175,8 +176,10 @@ static uint64_t ask(struct question q, const uint8_t *file, uint64_t length, voi
         return skeptolyr_describe(file, length, q.k, first, q.lengths[0]);
     case PLACE:
         return skeptolyr_place(file, length, q.k, q.n, first, q.lengths[0]);
-    default:
+    case SHEET:
         return skeptolyr_sheet(file, length, q.k, q.n, first, q.lengths[0]);
+    default:
+        return skeptolyr_point(file, length, q.k, q.n, first, q.lengths[0]);
     }
 }
 

@@ -37,5 +37,8 @@ int main(void)
     print_answer(skeptolyr_place(file, length, 0, 0, NULL, 0));
     print_answer(skeptolyr_sheet(NULL, 0, 0, 0, numbers, ROOM));
     print_answer(skeptolyr_sheet(file, length, 0, 0, NULL, 0));
+    print_answer(skeptolyr_point(NULL, 0, 0, 0, values, ROOM));
+    print_answer(skeptolyr_point(file, length, 0, 0, NULL, 0));
+    print_answer(skeptolyr_point(file, length, 0, 1, NULL, 0));
     return 0;
 }

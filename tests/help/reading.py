@@ -1,4 +1,4 @@
-"""An independent reading of docs/RULES.md, from its paragraphs: check, describe, decode, place and sheet, in Python's own whole numbers, times and
+"""An independent reading of docs/RULES.md, from its paragraphs: check, describe, decode, point, place and sheet, in Python's own whole numbers, times and
 doubles; and the rows of numbers that C is given of a description, of a place and of a place on the sheet."""
 import datetime
 import fractions
@@ -299,6 +299,34 @@ def integers(file, stretch, told):
     return found
 
 
+def packed_number(octets, bit, width):
+    """The one number of so many bits that starts behind so many bits."""
+    end = ceiling(bit + width)
+    return int.from_bytes(octets[bit // 8:end], 'big') >> 8 * end - bit - width & (1 << width) - 1
+
+
+def group_values(s, plan):
+    """The reference and the packed value of each rank in one sum, in order. They are read one at a time, as long as they are asked for."""
+    bit = 8 * plan['values']
+    for reference, (length, width) in zip(plan['references'], plan['groups']):
+        for _ in range(length):
+            yield reference + packed_number(s.octets, bit, width)
+            bit += width
+
+
+def integer(file, stretch, told, rank):
+    """X of the point present that has this rank, counted from 1. By 5.0 it is read alone. By 5.3 X is undone and judged from the first up to this one."""
+    s = Octets(file, stretch, 16)
+    if told['template'] == 0:
+        return packed_number(s.octets, 40 + (rank - 1) * told['bits'], told['bits'])
+    w = told['groups']['extra']
+    given, zmin, before, x = {1: (6, 5 + w), 2: (6 + w, 5 + 2 * w)}, s.signed(6 + 2 * w, 5 + 3 * w), None, None
+    for number, value in zip(range(1, rank + 1), group_values(s, told['plan'])):
+        before, x = x, s(*given[number]) if number in given else value + zmin + 2 * x - before
+        s.demand(0 <= x <= 2147483647)
+    return x
+
+
 def double(told, x):
     """R + X x 2^E rounded once, then divided by 10^D or multiplied by 10^-D and rounded once. Python's floats are doubles that round so."""
     total = struct.unpack('>f', told['r'].to_bytes(4, 'big'))[0] + x * 2.0 ** told['e']
@@ -335,6 +363,21 @@ def decode(file, k, start, values_length, presence_length):
     doubles = {x: double(told, x) for x in set(xs)}
     following = map(doubles.__getitem__, xs)
     return points, present, xs, [next(following) if bit == '1' else 0.0 for bit in present]
+
+
+def point(file, k, n, length):
+    """What skeptolyr_point is to answer, and the double that it is to put: 1 and the value of point n, or 0 and 0.0 where the point is missing. A missing
+    point has no X, so none is judged for it."""
+    told = describe(file, k)
+    if n >= told['grid']['ni'] * told['grid']['nj']:
+        raise Refused(17, 0)
+    if length == 0:
+        raise Refused(15, 0)
+    bits = told['bits present']
+    if bits and bits[n] == '0':
+        return 0, 0.0
+    rank = 1 + (bits.count('1', 0, n) if bits else n)
+    return 1, double(told, integer(file, fields(file)[k][1][7], told, rank))
 
 
 def distance(number, lines, span):

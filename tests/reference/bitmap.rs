@@ -20,13 +20,18 @@ impl Presence<'_> {
 
     /// Counts the points present, leaving the spare bits of the last octet out.
     pub fn present_points(&self) -> u64 {
+        self.present_before(self.points)
+    }
+
+    /// Counts the points present before the given one, which is not counted itself.
+    pub fn present_before(&self, point: u64) -> u64 {
         let octets = match self.bitmap {
-            None => return self.points,
+            None => return point,
             Some(octets) => octets,
         };
-        let whole_octets = self.points / 8;
+        let whole_octets = point / 8;
         let in_whole_octets: u64 = octets.iter().take(whole_octets as usize).map(|octet| u64::from(octet.count_ones())).sum();
-        let in_the_rest = (whole_octets * 8..self.points).filter(|point| self.is_present(*point)).count();
+        let in_the_rest = (whole_octets * 8..point).filter(|before| self.is_present(*before)).count();
         in_whole_octets + in_the_rest as u64
     }
 }

@@ -150,6 +150,30 @@ fn put_numbers(numbers: &[i64], run: &mut [i64]) -> Result<u64, Refusal> {
     Ok(numbers.len() as u64)
 }
 
+/// Gives the value of point n of field k, or nothing where the point is missing.
+pub fn point(file: &[u8], k: u64, n: u64) -> Result<Option<f64>, Refusal> {
+    let mut value = [0.0];
+    let is_present = point_into(file, k, n, &mut value)? == 1;
+    Ok(if is_present { Some(value[0]) } else { None })
+}
+
+/// Puts the value of point n of field k into the first element of a run, or +0 where the point is missing, and answers whether it is present, 1 or 0.
+///
+/// The point's own X has as many before it as the bitmap has ones before n. It and those are judged, and no X behind it; of a missing point none is.
+pub fn point_into(file: &[u8], k: u64, n: u64, value: &mut [f64]) -> Result<u64, Refusal> {
+    let OpenField { presence, packing, .. } = open_in_file(file, k)?;
+    if n >= presence.points {
+        return Err(Refusal::without_place(17));
+    }
+    let element = value.first_mut().ok_or(Refusal::without_place(15))?;
+    if !presence.is_present(n) {
+        *element = 0.0;
+        return Ok(0);
+    }
+    *element = packing.value(packing.integer_behind(presence.present_before(n))?);
+    Ok(1)
+}
+
 /// Gives every X of field k, over its present points in scan order.
 pub fn integers(file: &[u8], k: u64) -> Result<Vec<u32>, Refusal> {
     open_in_file(file, k)?.packing.integers()

@@ -5,7 +5,8 @@ use std::process::exit;
 
 use reference::{Description, Refusal};
 
-const USAGE: &str = "usage: reference check | describe K | place K N | sheet K N | decode K START VALUES_LENGTH PRESENCE_LENGTH | rebuild R_HEX E D X | list
+const USAGE: &str = "usage: reference check | describe K | place K N | sheet K N | point K N | decode K START VALUES_LENGTH PRESENCE_LENGTH
+                | rebuild R_HEX E D X | list
 Every question but rebuild reads a file on standard input.";
 
 /// What stays in an element that the decoder leaves alone, so that the print shows it.
@@ -31,6 +32,7 @@ fn answer(words: &[&str]) -> Result<String, String> {
         ["describe", k] => Ok(describe(&standard_input()?, number(k)?)),
         ["place", k, n] => Ok(place(&standard_input()?, number(k)?, number(n)?)),
         ["sheet", k, n] => Ok(sheet(&standard_input()?, number(k)?, number(n)?)),
+        ["point", k, n] => Ok(point(&standard_input()?, number(k)?, number(n)?)),
         ["decode", k, start, values_length, presence_length] => {
             decode(&standard_input()?, number(k)?, number(start)?, number(values_length)?, number(presence_length)?)
         }
@@ -88,6 +90,14 @@ fn place(file: &[u8], k: u64, n: u64) -> String {
 fn sheet(file: &[u8], k: u64, n: u64) -> String {
     match reference::sheet(file, k, n) {
         Ok((right, down)) => format!("right {} down {}\n", right, down),
+        Err(refusal) => refused(refusal),
+    }
+}
+
+fn point(file: &[u8], k: u64, n: u64) -> String {
+    match reference::point(file, k, n) {
+        Ok(Some(value)) => format!("value {:016X} {:e}\n", value.to_bits(), value),
+        Ok(None) => "missing\n".to_string(),
         Err(refusal) => refused(refusal),
     }
 }

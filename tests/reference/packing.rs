@@ -185,28 +185,28 @@ impl Packing<'_> {
     pub fn integers(&self) -> Result<Vec<u32>, Refusal> {
         match self.form {
             Form::Simple { mut values } => Ok((0..self.representation.n).map(|_| values.read(self.representation.bits)).collect()),
-            Form::Grouped(data) => self.grouped_integers(data).ok_or(Refusal { number: 16, place: self.section.start }),
+            Form::Grouped(data) => self.grouped_integers(data).ok_or_else(|| self.out_of_range()),
         }
     }
 
-    /// Undoes the second-order differences; the first two packed values are passed over.
-    fn grouped_integers(&self, mut data: GroupedData<'_>) -> Option<Vec<u32>> {
-        let mut integers = Vec::with_capacity(self.representation.n as usize);
-        let (mut before_last, mut last) = (0, 0);
-        for group in data.groups {
-            for _ in 0..group.length {
-                let y = i64::from(data.packed.read(group.width as u8)) + group.reference + data.z_min;
-                let x = match integers.len() {
-                    0 => data.first_value,
-                    1 => data.second_value,
-                    _ => y + 2 * last - before_last,
-                };
-                require((0..=LARGEST_X).contains(&x))?;
-                integers.push(x as u32);
-                before_last = last;
-                last = x;
-            }
+    /// The X that has so many others before it, or 16 where it or one of those is out of range. Those behind it are not judged.
+    pub fn integer_behind(&self, others: u64) -> Result<u32, Refusal> {
+        match self.form {
+            Form::Simple { values } => Ok(values.behind(others, self.representation.bits).read(self.representation.bits)),
+            Form::Grouped(data) => grouped_integer_behind(data, others).ok_or_else(|| self.out_of_range()),
         }
+    }
+
+    fn out_of_range(&self) -> Refusal {
+        Refusal { number: 16, place: self.section.start }
+    }
+
+    fn grouped_integers(&self, data: GroupedData<'_>) -> Option<Vec<u32>> {
+        let mut integers = Vec::with_capacity(self.representation.n as usize);
+        undo_differences(data, |x| {
+            integers.push(x);
+            true
+        })?;
         Some(integers)
     }
 
@@ -214,6 +214,42 @@ impl Packing<'_> {
     pub fn value(&self, x: u32) -> f64 {
         exact::value(self.representation.r, self.representation.e, self.representation.d, x)
     }
+}
+
+/// Undoes the second-order differences one by one, and hands on each X that is in range, for as long as another is wanted. The first two packed values are
+/// passed over.
+fn undo_differences(mut data: GroupedData<'_>, mut is_another_wanted: impl FnMut(u32) -> bool) -> Option<()> {
+    let (mut before_last, mut last, mut undone) = (0, 0, 0u64);
+    for group in data.groups {
+        for _ in 0..group.length {
+            let y = i64::from(data.packed.read(group.width as u8)) + group.reference + data.z_min;
+            let x = match undone {
+                0 => data.first_value,
+                1 => data.second_value,
+                _ => y + 2 * last - before_last,
+            };
+            require((0..=LARGEST_X).contains(&x))?;
+            if !is_another_wanted(x as u32) {
+                return Some(());
+            }
+            before_last = last;
+            last = x;
+            undone += 1;
+        }
+    }
+    Some(())
+}
+
+/// The X of a grouped section 7 that has so many others before it, if it and all of those are in range.
+fn grouped_integer_behind(data: GroupedData<'_>, others: u64) -> Option<u32> {
+    let (mut found, mut left) = (None, others);
+    undo_differences(data, |x| {
+        let is_another_wanted = left > 0;
+        found = Some(x);
+        left = left.saturating_sub(1);
+        is_another_wanted
+    })?;
+    found
 }
 
 /// A packed run, read in order from its first bit.
@@ -226,6 +262,11 @@ struct PackedRun<'a> {
 impl<'a> PackedRun<'a> {
     fn new(octets: &'a [u8]) -> PackedRun<'a> {
         PackedRun { octets, bit_place: 0 }
+    }
+
+    /// The same run behind so many numbers of so many bits.
+    fn behind(self, numbers: u64, bits: u8) -> PackedRun<'a> {
+        PackedRun { bit_place: self.bit_place + numbers * u64::from(bits), ..self }
     }
 
     /// Reads at most 31 bits: with the bits before them in their first octet, they lie within five octets.

@@ -330,7 +330,7 @@ impl OneField {
         describe(&self.file(), 0).is_ok()
     }
 
-    /// Asserts that describe, decode, place, sheet, presence and integers all refuse by this number, at that section, also where a run has no room.
+    /// Asserts that describe, decode, place, sheet, point, presence and integers all refuse by this number, at that section, also where a run has no room.
     fn refused_by(&self, number: u32, section: usize, what: &str) {
         let file = self.file();
         let refusal = Refusal { number, place: self.start(section) };
@@ -342,6 +342,8 @@ impl OneField {
         assert_eq!(place_into(&file, 0, u64::MAX, &mut []), Err(refusal), "{}", what);
         assert_eq!(sheet(&file, 0, u64::MAX), Err(refusal), "{}", what);
         assert_eq!(sheet_into(&file, 0, u64::MAX, &mut []), Err(refusal), "{}", what);
+        assert_eq!(point(&file, 0, u64::MAX), Err(refusal), "{}", what);
+        assert_eq!(point_into(&file, 0, u64::MAX, &mut []), Err(refusal), "{}", what);
         assert_eq!(presence(&file, 0), Err(refusal), "{}", what);
         assert_eq!(integers(&file, 0), Err(refusal), "{}", what);
     }
@@ -1374,6 +1376,96 @@ fn decode_needs_room() {
     assert_eq!(decode(&huge, 0, 0, &mut values, &mut marks), refusal);
 }
 
+/// What point answers for each point of a grid of so many: its value, nothing where it is missing, or the number of its refusal.
+fn points_of(field: &OneField, count: u64) -> Vec<Result<Option<f64>, u32>> {
+    (0..count).map(|n| point(&field.file(), 0, n).map_err(|refusal| refusal.number)).collect()
+}
+
+/// The same field under a bitmap of eight points.
+fn under_bitmap(field: &OneField, bitmap: u8) -> OneField {
+    field.with(3, section_3(flat_grid(8, 1))).with(6, section(6, &[0, bitmap]))
+}
+
+#[test]
+fn points_of_the_sample() {
+    let told = |k| (0..5).map(|n| point(&sample(), k, n)).collect::<Vec<_>>();
+    assert_eq!(told(0), [Ok(Some(291.0)), Ok(None), Ok(Some(2748.0)), Ok(None), Err(refused(17, 0))]);
+    assert_eq!(told(1), [Ok(Some(7.0)), Ok(None), Ok(Some(9.0)), Ok(None), Err(refused(17, 0))]);
+    assert_eq!(told(2), [Err(refused(8, 0)); 5]);
+    assert_eq!(point(&sample(), 0, u64::MAX), Err(refused(17, 0)));
+    assert_eq!(points_of(&OneField::lambert(), 4), [Ok(Some(291.0)), Ok(Some(2748.0)), Ok(Some(0.0)), Ok(Some(1.0))]);
+}
+
+#[test]
+fn point_fills_its_first_element_only() {
+    let asked = |n, length| {
+        let mut run = vec![9.0; length];
+        (point_into(&sample(), 0, n, &mut run), run.into_iter().map(f64::to_bits).collect::<Vec<_>>())
+    };
+    let bits = |run: &[f64]| run.iter().map(|value| value.to_bits()).collect::<Vec<_>>();
+    assert_eq!(asked(0, 1), (Ok(1), bits(&[291.0])));
+    assert_eq!(asked(2, 3), (Ok(1), bits(&[2748.0, 9.0, 9.0])));
+    assert_eq!(asked(1, 1), (Ok(0), bits(&[0.0])));
+    assert_eq!(asked(3, 2), (Ok(0), bits(&[0.0, 9.0])));
+    assert_eq!(asked(4, 2), (Err(refused(17, 0)), bits(&[9.0, 9.0])));
+    assert_eq!((asked(0, 0), asked(1, 0)), ((Err(refused(15, 0)), vec![]), (Err(refused(15, 0)), vec![])));
+    assert_eq!(asked(4, 0), (Err(refused(17, 0)), vec![]));
+}
+
+#[test]
+fn points_are_as_decode_has_them() {
+    let grouped = OneField::grouped(TWO_GROUPS, &TWO_GROUPS_DATA);
+    let no_point = OneField::simple().with(5, section_5_simple(0, 12)).with(6, section(6, &[0, 0])).with(7, section(7, &[]));
+    let fields = [
+        (OneField::simple(), 4),
+        (OneField::lambert(), 4),
+        (OneField::on_grid(flat_grid(7, 3)), 21),
+        (no_point, 4),
+        (grouped.clone(), 5),
+        (under_bitmap(&grouped, 0b1011_0101), 8),
+        (under_bitmap(&grouped, 0b0001_1111), 8),
+        (under_bitmap(&grouped, 0b1111_1000), 8),
+    ];
+    for (field, count) in fields {
+        let (mut values, mut marks) = (vec![9.0; count], vec![9; count]);
+        assert_eq!(decode(&field.file(), 0, 0, &mut values, &mut marks), Ok(count as u32));
+        let decoded: Vec<_> = values.iter().zip(marks).map(|(value, mark)| Ok(if mark == 1 { Some(*value) } else { None })).collect();
+        assert_eq!(points_of(&field, count as u64), decoded);
+    }
+}
+
+#[test]
+fn point_judges_integers_up_to_its_own() {
+    let (limit, given) = (2_147_483_647, |x: u32| Ok(Some(f64::from(x))));
+    assert_eq!(points_of(&plain_differences(5, 5, 3, -1), 5), [given(5), given(3), given(0), Err(16), Err(16)]);
+    assert_eq!(points_of(&plain_differences(4, limit - 1, limit, 0), 4), [given(limit - 1), given(limit), Err(16), Err(16)]);
+    assert_eq!(points_of(&plain_differences(2, limit + 1, 0, 0), 2), [Err(16), Err(16)]);
+    assert_eq!(points_of(&plain_differences(2, 7, limit + 1, 0), 2), [given(7), Err(16)]);
+    let out_of_range = plain_differences(4, 0, 0, -1);
+    assert_eq!(point(&out_of_range.file(), 0, 2), Err(refused(16, out_of_range.start(7))));
+    let mut run = [9.0; 2];
+    assert_eq!(point_into(&out_of_range.file(), 0, 3, &mut run), Err(refused(16, out_of_range.start(7))));
+    assert_eq!(run, [9.0; 2]);
+}
+
+#[test]
+fn missing_points_are_not_judged() {
+    let field = under_bitmap(&plain_differences(4, 6, 2_147_483_648, 0), 0b0101_0110);
+    let (missing, out) = (Ok(None), Err(16));
+    assert_eq!(points_of(&field, 8), [missing, Ok(Some(6.0)), missing, out, missing, out, out, missing]);
+    let first = under_bitmap(&plain_differences(4, 2_147_483_648, 6, 0), 0b0101_0110);
+    assert_eq!(points_of(&first, 8), [missing, out, missing, out, missing, out, out, missing]);
+}
+
+#[test]
+fn point_tries_17_then_15_then_16() {
+    let field = under_bitmap(&plain_differences(4, 6, 2_147_483_648, 0), 0b0101_0110);
+    let asked = |n, length| point_into(&field.file(), 0, n, &mut vec![9.0; length]).map_err(|refusal| (refusal.number, refusal.place));
+    assert_eq!((asked(3, 1), asked(3, 0)), (Err((16, field.start(7))), Err((15, 0))));
+    assert_eq!((asked(0, 1), asked(0, 0)), (Ok(0), Err((15, 0))));
+    assert_eq!((asked(8, 1), asked(8, 0), asked(1 << 32, 0)), (Err((17, 0)), Err((17, 0)), Err((17, 0))));
+}
+
 #[test]
 fn limits_of_rebuild() {
     let refusal = Err(refused(19, 0));
@@ -1513,6 +1605,7 @@ fn ask_everything(file: &[u8]) -> u64 {
         describe(file, 0).map_or_else(Refusal::code, |told| told.numbers().len() as u64),
         place(file, 0, 3).map_or_else(Refusal::code, |(_, longitude)| u64::from(longitude)),
         sheet(file, 0, 3).map_or_else(Refusal::code, |(right, _)| right as u64),
+        point(file, 0, 2).map_or_else(Refusal::code, |value| value.map_or(0, f64::to_bits)),
         decode(file, 0, 1, &mut values, &mut marks).map_or_else(Refusal::code, u64::from),
         listing(file).len() as u64,
     ];
@@ -1545,5 +1638,6 @@ fn every_shortened_file_is_refused() {
         assert_eq!(describe_into(&file[..length], 0, &mut [0; 52]), Err(refused(3, 0)), "{} octets", length);
         assert_eq!(place_into(&file[..length], 0, 9, &mut [0]), Err(refused(3, 0)), "{} octets", length);
         assert_eq!(sheet_into(&file[..length], 0, 9, &mut [0]), Err(refused(3, 0)), "{} octets", length);
+        assert_eq!(point_into(&file[..length], 0, 9, &mut []), Err(refused(3, 0)), "{} octets", length);
     }
 }
