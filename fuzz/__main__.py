@@ -35,7 +35,12 @@ PRESENCE = 'a presence is neither 0 nor 1'
 KIND = 'the questions differ about the kind of grid'
 TWICE = 'describe puts numbers twice, and differently'
 PLACE = "a refusal's place is not where it can be"
-# Behind the name of describe, of place or of sheet.
+# Of one point: against decode, against the independent decoder, and of the room for it.
+VALUE_OF_DECODE = 'the value of a point is not the one that decode writes'
+VALUE = "the value of a point and the independent decoder's differ"
+POINT_ANSWER = 'point and the independent decoder differ'
+POINT_ROOM = 'point refuses a run that has room, or takes one that has none'
+# Behind the name of describe, of place or of sheet, and two of them behind that of point.
 NUMBER = ' puts another number than the independent decoder'
 NUMBERS_ANSWER = ' and the independent decoder differ'
 COUNT = ' puts another number of numbers than it has'
@@ -126,6 +131,28 @@ MESSAGES = [
     'sheet' + NUMBERS_ANSWER,
     'sheet' + COUNT,
     'sheet' + NOT_OWN,
+    VALUE_OF_DECODE,
+    VALUE,
+    VALUE_OF_DECODE,
+    VALUE_OF_DECODE,
+    VALUE,
+    'point puts a value twice, and differently',
+    'point does not tell of a point what decode does',
+    VALUE_OF_DECODE,
+    VALUE_OF_DECODE,
+    'a point has a value behind one that is out of range',
+    POINT_ROOM,
+    POINT_ANSWER,
+    POINT_ANSWER,
+    'point refuses a field otherwise than decode does',
+    POINT_ANSWER,
+    'point' + NOT_REFUSED,
+    'point' + NOT_AS_DECODE,
+    POINT_ANSWER,
+    POINT_ROOM,
+    OVERFLOW,
+    STRETCH,
+    STRETCH,
 ]
 
 

@@ -2,14 +2,14 @@
 
 They are the files of the other tests: samples, the rules' examples, a file for each error that we have met, what an earlier field decides,
 refusals 15 and 16, fields in both templates under each indicator, fields of some hundred points; and, each in several questions, a grid whose columns and
-rows lie halfway between two millionths of a degree, and Lambert grids.
+rows lie halfway between two millionths of a degree, Lambert grids, and fields whose integers leave their range, with points missing among them.
 """
 import os
 import random
 import shutil
 import sys
 
-from tests import decoding, fields
+from tests import decoding, fields, points
 from tests.help import SEED, grib, reading
 
 LONGEST_RUN = 2047
@@ -19,6 +19,8 @@ BITMAPS = 8
 LARGEST_NEAR = 223
 # How many questions are put about a grid whose places matter: as many as there are pairs of a point and a length of a run for its place.
 QUESTIONS_OF_GRID = 12
+# How many are put about a field whose integers leave their range: as many as there are pairs of a point and a length of a run for its value.
+QUESTIONS_OF_RANGE = 15
 
 
 def long_fields(rng):
@@ -31,6 +33,13 @@ def long_fields(rng):
     marked = [grib.section6(0, decoding.shapes.bitmap(marks)), grib.section6(254), grib.section6(254)]
     under_bitmap = decoding.small_file(*packed, ni=len(marks), sections6=marked)
     return [(under_bitmap, k) for k in range(3)] + [(decoding.small_file(given), 0) for given in packed]
+
+
+def out_of_range():
+    """Files whose integers leave their range: at the second value, behind it, and below 0, with points missing before, between and behind them."""
+    second, third = decoding.one_group((7, points.LARGEST_X + 1, 0), [0, 0], 0), decoding.one_group((9, 9, -20), [0, 0, 0, 60, 20], 6)
+    found = [points.under_bitmap(marks, second) for marks in ('0011', '0110')] + [points.under_bitmap(marks, third) for marks in ('10010111', '111110')]
+    return found + [decoding.on_cone(file) for file in found[:1]]
 
 
 def files():
@@ -49,7 +58,8 @@ def files():
     cones = [fields.southern_cone(), fields.lambert(29, 7, dx=2147483647, dy=70000), decoding.on_cone(grib.grouped(), 3)]
     cones += [decoding.on_cone(file) for file, _ in long_fields(rng)[-2:]]
     found += [('cone', file, 0) for file in cones for _ in range(QUESTIONS_OF_GRID)]
-    return found + [('both kinds', fields.both_kinds(), k) for k in (0, 1) for _ in range(QUESTIONS_OF_GRID)]
+    found += [('both kinds', fields.both_kinds(), k) for k in (0, 1) for _ in range(QUESTIONS_OF_GRID)]
+    return found + [('out of range', file, 0) for file in out_of_range() for _ in range(QUESTIONS_OF_RANGE)]
 
 
 def points_of(file, k):
@@ -62,15 +72,15 @@ def points_of(file, k):
 
 
 def seeds():
-    """(name, the input's octets). Of decode one question in four fits exactly, and one lends a run that is one element short. Describe, place and sheet are
-    lent runs that are too short, that fit, and that are longer, and a third of the points is the one behind the last."""
+    """(name, the input's octets). Of decode one question in four fits exactly, and one lends a run that is one element short. Describe, place, sheet and
+    point are lent runs that are too short, that fit, and that are longer, and a third of the points is the one behind the last."""
     for number, (name, file, k) in enumerate(files()):
-        points = points_of(file, k)
+        count = points_of(file, k)
         start, spare = ((2, 3), (0, 0), (1, 1), (1, -1))[number % 4]
-        values = max(0, min(LONGEST_RUN, start + points + spare))
-        presence = min(LONGEST_RUN, start + points)
-        n = min(LARGEST_NEAR, (1, points - 1, points)[number % 3])
-        numbers = [(0, 53, 54, 52, 60, 61, 59)[number % 7], n, (0, 2, 3, 1)[number % 4], (0, 3, 2, 1)[number % 4]]
+        values = max(0, min(LONGEST_RUN, start + count + spare))
+        presence = min(LONGEST_RUN, start + count)
+        n = min(LARGEST_NEAR, (1, count - 1, count)[number % 3])
+        numbers = [(0, 53, 54, 52, 60, 61, 59)[number % 7], n, (0, 2, 3, 1)[number % 4], (0, 3, 2, 1)[number % 4], (0, 1, 2, 1, 3)[number % 5]]
         if len(file) <= LONGEST_FILE:
             yield '%03d %s' % (number, name), bytes([k, start]) + grib.number(values, 2) + grib.number(presence, 2) + bytes(numbers) + file
 

@@ -56,3 +56,11 @@ pub unsafe extern "C" fn reference_sheet(file: *const u8, file_length: usize, k:
     let (file, place) = (slice::from_raw_parts(file, file_length), slice::from_raw_parts_mut(place, place_length));
     reference::sheet_into(file, k as u64, n as u64, place).unwrap_or_else(|refusal| refusal.code())
 }
+
+/// # Safety
+/// `file` points to `file_length` octets, and `value` to `value_length` elements. They do not overlap.
+#[no_mangle]
+pub unsafe extern "C" fn reference_point(file: *const u8, file_length: usize, k: usize, n: usize, value: *mut f64, value_length: usize) -> u64 {
+    let (file, value) = (slice::from_raw_parts(file, file_length), slice::from_raw_parts_mut(value, value_length));
+    reference::point_into(file, k as u64, n as u64, value).unwrap_or_else(|refusal| refusal.code())
+}

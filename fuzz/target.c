@@ -1,4 +1,4 @@
-/* The fuzz target: puts one question to each of the five functions of skeptolyr.h, and aborts where an answer or an element is not as it must be.
+/* The fuzz target: puts one question to each of the six functions of skeptolyr.h, and aborts where an answer or an element is not as it must be.
  *
  * What the header promises is judged here without believing the library, and every answer and every element is compared with those of the
  * independent decoder. The file and the runs lie in heap memory of exactly their size, so that AddressSanitizer sees a step outside. */
@@ -20,10 +20,11 @@ uint64_t reference_decode(const uint8_t *file, size_t file_length, size_t k, siz
 uint64_t reference_describe(const uint8_t *file, size_t file_length, size_t k, int64_t *numbers, size_t numbers_length);
 uint64_t reference_place(const uint8_t *file, size_t file_length, size_t k, size_t n, int64_t *position, size_t position_length);
 uint64_t reference_sheet(const uint8_t *file, size_t file_length, size_t k, size_t n, int64_t *place, size_t place_length);
+uint64_t reference_point(const uint8_t *file, size_t file_length, size_t k, size_t n, double *value, size_t value_length);
 
 struct question {
     const uint8_t *file;
-    size_t length, k, start, values_length, presence_length, numbers_length, n, position_length, place_length;
+    size_t length, k, start, values_length, presence_length, numbers_length, n, position_length, place_length, value_length;
 };
 
 struct runs {
@@ -38,7 +39,8 @@ enum { FILLING = 0xa5, OTHER_FILLING = 0x5a };
 
 /* The refusals, by the numbers that the header gives them. */
 enum {
-    OVER_LENGTH = 1, NO_OCTET = 2, LAST_OF_CHECK = 7, NO_FIELD = 8, LAST_OF_FIELD = 14, NO_ROOM = 15, LAST_OF_DECODE = 16, NO_POINT = 17, OTHER_GRID = 20
+    OVER_LENGTH = 1, NO_OCTET = 2, LAST_OF_CHECK = 7, NO_FIELD = 8, LAST_OF_FIELD = 14, NO_ROOM = 15, OUT_OF_RANGE = 16, LAST_OF_DECODE = 16, NO_POINT = 17,
+    OTHER_GRID = 20
 };
 
 static void fault(const struct question *q, const char *what, uint64_t found, uint64_t wanted)
@@ -46,7 +48,8 @@ static void fault(const struct question *q, const char *what, uint64_t found, ui
     fprintf(stderr, "FAULT: %s\n  found %016" PRIx64 ", wanted %016" PRIx64 "\n", what, found, wanted);
     fprintf(stderr, "  a file of %zu octets, field %zu from element %zu on", q->length, q->k, q->start);
     fprintf(stderr, " in runs of %zu and %zu\n", q->values_length, q->presence_length);
-    fprintf(stderr, "  its description in %zu numbers, and point %zu in %zu and in %zu\n", q->numbers_length, q->n, q->position_length, q->place_length);
+    fprintf(stderr, "  its description in %zu numbers, point %zu in %zu and in %zu", q->numbers_length, q->n, q->position_length, q->place_length);
+    fprintf(stderr, ", and its value in a run of %zu\n", q->value_length);
     abort();
 }
 
@@ -364,6 +367,127 @@ static void ask_numbers_thrice(const struct question *q, const struct numbering 
     take_back(third, f->length * sizeof *third);
 }
 
+/* ---- one point */
+
+/* At most so many points of a field are asked for beside the one of the question, at even distances. */
+enum { POINTS_ASKED = 16 };
+
+/* How many points a field has that is described, or 0 where it is not, or where they are more than the longest run has elements. */
+static size_t points_of(const struct question *q)
+{
+    enum { POINTS = 12 };
+    int64_t *numbers = lend(SKEPTOLYR_DESCRIPTION_LAMBERT * sizeof *numbers);
+    uint64_t described = skeptolyr_describe(q->file, q->length, q->k, numbers, SKEPTOLYR_DESCRIPTION_LAMBERT);
+    size_t points = skeptolyr_is_refusal(described) || numbers[POINTS] > LONGEST_RUN ? 0 : (size_t)numbers[POINTS];
+    take_back(numbers, SKEPTOLYR_DESCRIPTION_LAMBERT * sizeof *numbers);
+    return points;
+}
+
+/* A point of a field that decode takes is as decode has it. Of one that decode refuses with 16, a point is missing, or has a value as long as no point before it
+ * was refused, or is refused as the field is. The answer is whether such a refusal was met, now or before. */
+static int judge_by_decode(const struct question *q, uint64_t decoded, struct runs all, size_t n, int is_out)
+{
+    double *value = lend(sizeof *value);
+    memset(value, FILLING, sizeof *value);
+    uint64_t answer = skeptolyr_point(q->file, q->length, q->k, n, value, 1), bits = bits_of(value);
+    take_back(value, sizeof *value);
+    if (!skeptolyr_is_refusal(decoded) && answer != all.presence[n])
+        fault(q, "point does not tell of a point what decode does", answer, all.presence[n]);
+    if (!skeptolyr_is_refusal(decoded) && bits != bits_of(all.values + n))
+        fault(q, "the value of a point is not the one that decode writes", bits, bits_of(all.values + n));
+    if (!skeptolyr_is_refusal(decoded))
+        return 0;
+    if (answer > 1 && answer != decoded)
+        fault(q, "point refuses a field otherwise than decode does", answer, decoded);
+    if (answer == 1 && is_out)
+        fault(q, "a point has a value behind one that is out of range", answer, decoded);
+    return is_out || answer == decoded;
+}
+
+/* Goes through points of a field in their order, the last among them, and holds them to decode in runs of its own. Where all are asked for, the one that makes
+ * decode refuse is among them. */
+static void judge_points(const struct question *q, uint64_t decoded)
+{
+    struct question own = *q;
+    size_t points = is_field_refused(decoded) ? 0 : points_of(q), step = points / POINTS_ASKED + 1;
+    own.start = 0;
+    own.values_length = own.presence_length = points;
+    struct runs all = lend_runs(&own, FILLING);
+    uint64_t with_room = points > 0 ? ask_decode(&own, all) : 0;
+    int is_out = 0;
+    for (size_t n = 0; n < points; n += step)
+        is_out = judge_by_decode(q, with_room, all, n, is_out);
+    if (points > 0)
+        is_out = judge_by_decode(q, with_room, all, points - 1, is_out);
+    if (skeptolyr_is_refusal(with_room) && step == 1 && !is_out)
+        fault(q, "decode refuses a field of which every point is told", with_room, 0);
+    take_back_runs(&own, all);
+}
+
+/* What is refused because of the file or of the field is refused as decode does. A short run is refused for every point that is there, and no other run. */
+static void judge_one_point(const struct question *q, uint64_t decoded, uint64_t answer)
+{
+    uint32_t number = skeptolyr_is_refusal(answer) ? skeptolyr_refusal_number(answer) : 0;
+    if (is_field_refused(decoded) && answer != decoded)
+        fault(q, "point does not refuse as decode does", answer, decoded);
+    if (is_field_refused(decoded))
+        return;
+    if (number != 0 && number != NO_POINT && number != NO_ROOM && number != OUT_OF_RANGE)
+        fault(q, "point refuses a field that decode does not refuse", answer, decoded);
+    if (number != 0)
+        judge_refusal(q, answer, NO_POINT);
+    if (number != NO_POINT && (number == NO_ROOM) != (q->value_length == 0))
+        fault(q, "point refuses a run that has room, or takes one that has none", answer, q->value_length);
+    if (number == 0 && answer > 1)
+        fault(q, "a point is neither present nor missing", answer, 1);
+    if (number == OUT_OF_RANGE && !skeptolyr_is_refusal(decoded))
+        fault(q, "an integer is out of range up to a point, and not in the field", answer, decoded);
+}
+
+static uint64_t ask_point(const struct question *q, double *value)
+{
+    return skeptolyr_point(q->file, q->length, q->k, q->n, value, q->value_length);
+}
+
+static double *lend_value(const struct question *q, int filling)
+{
+    double *value = lend(q->value_length * sizeof *value);
+    memset(value, filling, q->value_length * sizeof *value);
+    return value;
+}
+
+/* Judges the whole run of a call: no element has changed behind the first, and none at all where it was refused. */
+static void judge_value(const struct question *q, uint64_t answer, const double *value, int filling)
+{
+    size_t first = skeptolyr_is_refusal(answer) ? 0 : 1;
+    if (q->value_length > first)
+        judge_untouched(q, value, first * sizeof *value, q->value_length * sizeof *value, filling);
+    if (first == 1)
+        judge_point(q, bits_of(value), (uint8_t)answer);
+}
+
+static void ask_point_thrice(const struct question *q, uint64_t decoded)
+{
+    double *first = lend_value(q, FILLING), *second = lend_value(q, OTHER_FILLING), *third = lend_value(q, FILLING);
+    uint64_t answer = ask_point(q, first), again = ask_point(q, second);
+    uint64_t wanted = reference_point(q->file, q->length, q->k, q->n, third, q->value_length);
+    judge_one_point(q, decoded, answer);
+    if (answer != again)
+        fault(q, "point answers twice, and differently", again, answer);
+    judge_value(q, answer, first, FILLING);
+    judge_value(q, answer, second, OTHER_FILLING);
+    if (answer != wanted)
+        fault(q, "point and the independent decoder differ", answer, wanted);
+    judge_value(q, answer, third, FILLING);
+    if (!skeptolyr_is_refusal(answer) && bits_of(first) != bits_of(second))
+        fault(q, "point puts a value twice, and differently", bits_of(second), bits_of(first));
+    if (!skeptolyr_is_refusal(answer) && bits_of(first) != bits_of(third))
+        fault(q, "the value of a point and the independent decoder's differ", bits_of(first), bits_of(third));
+    take_back(first, q->value_length * sizeof *first);
+    take_back(second, q->value_length * sizeof *second);
+    take_back(third, q->value_length * sizeof *third);
+}
+
 int LLVMFuzzerTestOneInput(const uint8_t *data, size_t size)
 {
     if (size < QUESTION_OCTETS)
@@ -373,7 +497,7 @@ int LLVMFuzzerTestOneInput(const uint8_t *data, size_t size)
     memcpy(file, data + QUESTION_OCTETS, length);
     struct question q = {
         file, length, near_or_far(data[0]), near_or_far(data[1]), run_length(data + 2), run_length(data + 4),
-        data[6] & MOST_NUMBERS, near_or_far(data[7]), data[8] & MOST_OF_PLACE, data[9] & MOST_OF_PLACE};
+        data[6] & MOST_NUMBERS, near_or_far(data[7]), data[8] & MOST_OF_PLACE, data[9] & MOST_OF_PLACE, data[10] & MOST_OF_VALUE};
     struct numbering asked[] = {
         {"describe", ask_describe, ask_reference_describe, q.numbers_length, SKEPTOLYR_DESCRIPTION, SKEPTOLYR_DESCRIPTION_LAMBERT, 0},
         {"place", ask_place, ask_reference_place, q.position_length, SKEPTOLYR_POSITION, SKEPTOLYR_POSITION, 1},
@@ -382,6 +506,8 @@ int LLVMFuzzerTestOneInput(const uint8_t *data, size_t size)
     judge_kind(&q, decoded);
     for (size_t i = 0; i < sizeof asked / sizeof *asked; i++)
         ask_numbers_thrice(&q, asked + i, decoded);
+    ask_point_thrice(&q, decoded);
+    judge_points(&q, decoded);
     take_back(file, length);
     return 0;
 }

@@ -130,21 +130,22 @@ CALLER = r'''
 
 enum { ROOM = 300 };
 static uint8_t file[ROOM], presence[ROOM];
-static double values[ROOM];
+static double values[ROOM], value[ROOM];
 static int64_t numbers[ROOM], position[ROOM], place[ROOM];
 
 int main(int argc, char **argv)
 {
     const uint64_t nan = UINT64_C(0xfff0123456789abc);
-    size_t given[9], file_len, k, start, values_len, presence_len, n, numbers_len, position_len, place_len;
-    for (int i = 0; i < 9; i++)
+    size_t given[10], file_len, k, start, values_len, presence_len, n, numbers_len, position_len, place_len, value_len;
+    for (int i = 0; i < 10; i++)
         given[i] = i + 1 < argc ? strtoul(argv[i + 1], NULL, 10) : 0;
     file_len = given[0], k = given[1], start = given[2], values_len = given[3], presence_len = given[4];
-    n = given[5], numbers_len = given[6], position_len = given[7], place_len = given[8];
+    n = given[5], numbers_len = given[6], position_len = given[7], place_len = given[8], value_len = given[9];
     if (fread(file, 1, ROOM, stdin) == 0)
         return 2;
     for (int i = 0; i < ROOM; i++) {
         memcpy(values + i, &nan, sizeof nan);
+        memcpy(value + i, &nan, sizeof nan);
         presence[i] = 0xa5;
         numbers[i] = position[i] = place[i] = -77;
     }
@@ -153,23 +154,29 @@ int main(int argc, char **argv)
     printf("%016" PRIx64 "\n", skeptolyr_describe(DESCRIBED));
     printf("%016" PRIx64 "\n", skeptolyr_place(PLACED));
     printf("%016" PRIx64 "\n", skeptolyr_sheet(ON_SHEET));
+    printf("%016" PRIx64 "\n", skeptolyr_point(POINTED));
     for (int i = 0; i < ROOM; i++) {
-        uint64_t bits;
+        uint64_t bits, bits_of_point;
         memcpy(&bits, values + i, sizeof bits);
-        printf("%016" PRIx64 " %02x %" PRId64 " %" PRId64 " %" PRId64 "\n", bits, presence[i], numbers[i], position[i], place[i]);
+        memcpy(&bits_of_point, value + i, sizeof bits_of_point);
+        printf("%016" PRIx64 " %02x %016" PRIx64, bits, presence[i], bits_of_point);
+        printf(" %" PRId64 " %" PRId64 " %" PRId64 "\n", numbers[i], position[i], place[i]);
     }
     return 0;
 }
 '''
 ROOM = 300
 FUNCTIONS = {
-    'CHECKED': 'skeptolyr_check', 'DECODED': 'skeptolyr_decode', 'DESCRIBED': 'skeptolyr_describe', 'PLACED': 'skeptolyr_place', 'ON_SHEET': 'skeptolyr_sheet'}
+    'CHECKED': 'skeptolyr_check', 'DECODED': 'skeptolyr_decode', 'DESCRIBED': 'skeptolyr_describe', 'PLACED': 'skeptolyr_place', 'ON_SHEET': 'skeptolyr_sheet',
+    'POINTED': 'skeptolyr_point'}
 OTHER_GRID = 1 << 63 | 20 << 32
+# What each double is before a call.
+NAN = 0xfff0123456789abc
 
 
 class Sample(NamedTuple):
-    """A file of two fields; the numbers of the second, and where its last point lies, in degrees or on the sheet; and the arguments of a call. No two of these
-    are equal, and a call in which two of them have changed places has another outcome. The array for the question that is refused has no room."""
+    """A file of two fields; the numbers of the second, and where its last point but one lies, in degrees or on the sheet; and the arguments of a call. No two of
+    these are equal, and a call in which two of them have changed places has another outcome. The array for the question that is refused has no room."""
     file: bytes
     description: list
     position: list
@@ -178,14 +185,15 @@ class Sample(NamedTuple):
 
 
 def in_degrees():
-    """The rules' file. Its second field, in the numbers of RULES, "What C is given", and its last point."""
+    """The rules' file. Its second field, in the numbers of RULES, "What C is given", and its last point but one."""
     with open(os.path.join(TOP, 'samples', 'two-fields.grib2'), 'rb') as sample:
         file = sample.read()
     numbers = [
         0, 0, 2017, 5, 15, 12, 0, 0, 6, 6371229, 2, 2, 4, 36000000, 135000000, 35000000, 136000000, 1000000, 1000000, 1, 8, 2, 1, 0, 0, 0,
         8, 2017, 5, 15, 13, 0, 0, 1, 2017, 5, 15, 12, 0, 0, 2, 0, 0, 1, 12, 0, 254, 16, 37, 179, 237, 258, 264]
-    given = {'file_len': 276, 'k': 1, 'start': 2, 'values_len': 9, 'presence_len': 7, 'n': 3, 'numbers_len': 60, 'position_len': 5, 'place_len': 0}
-    return Sample(file, numbers, [35000000, 136000000], [], given)
+    given = {
+        'file_len': 276, 'k': 1, 'start': 3, 'values_len': 9, 'presence_len': 7, 'n': 2, 'numbers_len': 60, 'position_len': 5, 'place_len': 0, 'value_len': 4}
+    return Sample(file, numbers, [35000000, 135000000], [], given)
 
 
 def on_cone():
@@ -196,8 +204,9 @@ def on_cone():
         0, 0, 2017, 5, 15, 12, 0, 0, 1, 6371000, 2, 2, 4, 44137789, 102008758, 0, 0, 0, 0, 1, 8, 2, 1, 0, 0, 0,
         8, 2017, 5, 15, 13, 0, 0, 1, 2017, 5, 15, 12, 0, 0, 2, 0, 0, 1, 12, 0, 254, 16, 37, 188, 246, 267, 273,
         30, 30000000, 140000000, 5000000, 4000000, 60000000, 30000000]
-    given = {'file_len': 285, 'k': 1, 'start': 2, 'values_len': 9, 'presence_len': 7, 'n': 3, 'numbers_len': 62, 'position_len': 0, 'place_len': 5}
-    return Sample(file, numbers, [], [5000000, 4000000], given)
+    given = {
+        'file_len': 285, 'k': 1, 'start': 3, 'values_len': 9, 'presence_len': 7, 'n': 2, 'numbers_len': 62, 'position_len': 0, 'place_len': 5, 'value_len': 4}
+    return Sample(file, numbers, [], [0, 4000000], given)
 
 
 def parameters(function):
@@ -218,16 +227,28 @@ def called(command, sample, numbers):
     return done.stdout.decode().split('\n')[:-1]
 
 
+def bits_of(double):
+    return struct.unpack('>Q', struct.pack('>d', double))[0]
+
+
 def wanted(sample):
-    """What the caller is to print, by the independent reading: five answers, and every element, those outside the field as they were."""
-    file_len, k, start, values_len, presence_len = list(sample.given.values())[:5]
+    """What the caller is to print, by the independent reading: six answers, and every element, those outside the field and behind the point as they were."""
+    file_len, k, start, values_len, presence_len, n = list(sample.given.values())[:6]
     points, present, _, doubles = reading.decode(sample.file[:file_len], k, start, values_len, presence_len)
-    elements = [(0xfff0123456789abc, 0xa5)] * ROOM
-    elements[start:start + points] = [(*struct.unpack('>Q', struct.pack('>d', double)), int(bit)) for double, bit in zip(doubles, present)]
+    mark, value = reading.point(sample.file[:file_len], k, n, sample.given['value_len'])
+    elements, of_point = [(NAN, 0xa5)] * ROOM, [bits_of(value)] + [NAN] * (ROOM - 1)
+    elements[start:start + points] = [(bits_of(double), int(bit)) for double, bit in zip(doubles, present)]
     told = (sample.description, sample.position, sample.place)
-    answers = ['%016x' % answer for answer in (1 << 32 | 2, points, *(len(numbers) or OTHER_GRID for numbers in told))]
+    answers = ['%016x' % answer for answer in (1 << 32 | 2, points, *(len(numbers) or OTHER_GRID for numbers in told), mark)]
     runs = [numbers + [-77] * (ROOM - len(numbers)) for numbers in told]
-    return answers + ['%016x %02x %d %d %d' % (*element, *numbers) for element, *numbers in zip(elements, *runs)]
+    return answers + ['%016x %02x %016x %d %d %d' % (*element, *others) for element, *others in zip(elements, of_point, *runs)]
+
+
+def makes_no_difference(sample, one, other):
+    """Is a call the same where two lengths have changed places? So it is where both arrays have room in either."""
+    both = {one, other}
+    of_point = 'value_len' in both and both <= {'value_len', 'position_len', 'place_len'}
+    return both == {'values_len', 'presence_len'} or of_point and min(sample.given[name] for name in both) >= 2
 
 
 def faults_of_order(command, sample):
@@ -238,13 +259,13 @@ def faults_of_order(command, sample):
     for one, other in itertools.combinations(range(len(numbers)), 2):
         swapped = numbers[:]
         swapped[one], swapped[other] = numbers[other], numbers[one]
-        if {one, other} != {3, 4} and called(command, sample.file, swapped) == told:
+        if not makes_no_difference(sample, names[one], names[other]) and called(command, sample.file, swapped) == told:
             yield '%s and %s can change places' % (names[one], names[other])
 
 
 def parameters_are_in_order(folder):
-    """Called by the names of its parameters, the archive answers as the rules say, and not if two numbers change places. Which array has which length makes
-    no difference to any answer, so of these two the header alone tells: each array's length follows it."""
+    """Called by the names of its parameters, the archive answers as the rules say, and not if two numbers change places. Which of two arrays has which length
+    makes no difference where both have room, so of these the header alone tells: each array's length follows it."""
     command, degrees, cone = caller(folder), in_degrees(), on_cone()
     faults = [fault for sample in (degrees, cone) for fault in faults_of_order(command, sample)]
     for function in FUNCTIONS.values():
@@ -320,7 +341,7 @@ def told_by_name(sample, k, n):
 
 def names_are_right(folder):
     """The members of a description are its numbers in their order, with nothing between them, and the three functions that give numbers by name do so. The
-    last point is asked for, the point behind it, and a field that is not there."""
+    last point but one is asked for, the point behind the last, and a field that is not there."""
     source, faults = os.path.join(folder, 'names.c'), []
     for name, wanted_names in (('skeptolyr_field', NAMES), ('skeptolyr_position', POSITION_NAMES), ('skeptolyr_sheet_place', PLACE_NAMES)):
         faults += [] if list(members(name)) == wanted_names else ['%s: %s' % (name, list(members(name)))]
@@ -330,7 +351,7 @@ def names_are_right(folder):
         text.write(BY_NAME.replace('MEMBERS', '\n    '.join(lines)))
     command = archive.program('skeptolyr', source)
     for sample in (in_degrees(), on_cone()):
-        for k, n in ((1, 3), (1, 4), (2, 3)):
+        for k, n in ((1, 2), (1, 4), (2, 2)):
             said = subprocess.run([*command, str(k), str(n)], input=sample.file, stdout=subprocess.PIPE)
             lines, told = said.stdout.decode().split(), told_by_name(sample, k, n)
             faults += ['field %d, point %d: status %d: %s, and not %s' % (k, n, said.returncode, lines, told)] * (lines != told)
@@ -345,7 +366,7 @@ def null_is_taken():
     command, faults = archive.program('skeptolyr', 'tests/help/null.c'), []
     for sample, places in ((in_degrees(), (2, 15, 2, 20)), (on_cone(), (2, 20, 2, 15))):
         said = subprocess.run(command, input=sample.file, stdout=subprocess.PIPE)
-        told = ''.join('%016x 0\n' % (1 << 63 | number << 32) for number in (2, 2, 2, 15, 15, 15, 15, 2, 15, *places))
+        told = ''.join('%016x 0\n' % (1 << 63 | number << 32) for number in (2, 2, 2, 15, 15, 15, 15, 2, 15, *places, 2, 15, 15))
         faults += [] if (said.returncode, said.stdout.decode()) == (0, told) else ['status %d' % said.returncode, said.stdout.decode()]
     return judged('a null pointer with length 0', faults)
 
@@ -367,11 +388,11 @@ def arrays_are_only_written(folder):
     for function in FUNCTIONS.values():
         head = re.search(r'^define [^@]*@%s\((.*)\) ' % function, text_of(found), re.M).group(1)
         named = zip(re.split(r', (?=ptr|i64)', head), parameters(function))
-        arrays = [parameter for parameter, name in named if name in ('values', 'presence', 'numbers', 'position', 'place')]
+        arrays = [parameter for parameter, name in named if name in ('values', 'presence', 'value', 'numbers', 'position', 'place')]
         filled += len(arrays)
         found_of = r'\bwriteonly\b' if function == 'skeptolyr_describe' else r'\bwriteonly\b.*\b(captures\(none\)|nocapture\b)'
         faults += [head] * (not all(re.search(found_of, words) for words in arrays))
-    return judged('arrays that are only written', faults + ['%d arrays' % filled] * (filled != 5))
+    return judged('arrays that are only written', faults + ['%d arrays' % filled] * (filled != 6))
 
 
 def main():

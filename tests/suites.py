@@ -23,13 +23,14 @@ SUITES = [
     Suite('tiling', 3, 'the archive that C links against an independent reading'),
     Suite('fields', 28, 'descriptions, places, sheets and listings against an independent reading'),
     Suite('decoding', 16, 'every double and every presence against an independent reading'),
+    Suite('points', 16, 'the value of one point against an independent reading and against decode'),
     Suite('samples', 22, 'the samples: one of each refusal, put to the command and to an example program'),
     Suite('drawing', 16, 'pictures of fields, pixel by pixel'),
     Suite('install', 29, 'what make install installs, and its pages against the header'),
     Suite('command', 29, 'the command skeptolyr: what each of its subcommands prints, and bad inputs'),
     Suite('dump', 10, 'what dump marks, on either side of each rule and on damaged files'),
     Suite('readme', 5, 'the README: what its commands print, its picture, and which files it says are read'),
-    Suite('evidence', 85, 'the independent decoder, on files made and damaged by the hundred thousand', starts_first=True),
+    Suite('evidence', 91, 'the independent decoder, on files made and damaged by the hundred thousand', starts_first=True),
 ]
 
 # What several suites use, by the module that builds it and the words it is given. It is built before they start, so that no two of them build it at once.

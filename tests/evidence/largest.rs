@@ -1,4 +1,5 @@
-//! Files on either side of the largest size that is taken, 268,435,456 octets. They are zero but for the heads of their sections.
+//! Files on either side of the largest size that is taken, 268,435,456 octets. They are zero but for the heads of their sections, and for the last octet of each
+//! section 7, so that the last value of a field is not like the others.
 use crate::cases::{described, pointed, Case, Question};
 use crate::make::{number, section6, Point, Scaling, Section1, Section3, Section3Lambert, Section4, Section5};
 use std::rc::Rc;
@@ -9,8 +10,9 @@ const END: &[u8] = b"7777";
 /// The points of the first field, which are as many as a field can have, and of the last.
 const LARGEST_FIELD: u64 = 4096 * 4096;
 const LAST_POINTS: u32 = 8;
+const LAST_OCTET: u8 = 0x5a;
 
-/// The sections of one field on a grid of its own, but for the octets of section 7 behind its first five, which are zero.
+/// The sections of one field on a grid of its own, but for the octets of section 7 behind its first five.
 struct Field {
     heads: Vec<u8>,
     packed: usize,
@@ -54,9 +56,12 @@ fn message(length: usize) -> (Vec<u8>, u64) {
     let fields = fields_of(length - HEADER - one.len() - END.len());
     let mut file = vec![0; length];
     let mut place = 0;
-    let mut put = |octets: &[u8], zeros: usize| {
+    let mut put = |octets: &[u8], packed: usize| {
         file[place..place + octets.len()].copy_from_slice(octets);
-        place += octets.len() + zeros;
+        place += octets.len() + packed;
+        if packed > 0 {
+            file[place - 1] = LAST_OCTET;
+        }
     };
     put(&[b"GRIB\xff\xff\x00\x02", &number(length as u64, 8)[..], &one].concat(), 0);
     fields.iter().for_each(|field| put(&field.heads, field.packed));

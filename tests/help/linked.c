@@ -1,8 +1,9 @@
 /* What a user's program does: it puts the file on standard input to the functions of the installed header, all of them, and prints what they answer. Of
- * descriptions and places it prints only where they do not agree. tests/install.py compiles it as C and as C++, with what pkg-config says and nothing else. */
+ * descriptions, places and single points it prints only where they do not agree. tests/install.py compiles it as C and as C++, with what pkg-config says and nothing else. */
 #include <skeptolyr.h>
 
 #include <stdio.h>
+#include <string.h>
 
 enum { MOST_OCTETS = 65536, ROOM = 16 };
 
@@ -32,6 +33,17 @@ static int names_agree(size_t file_len, size_t k, uint32_t points)
         position.latitude == field.first.latitude && position.longitude == field.first.longitude;
 }
 
+/* Asks for each point alone: it is what decode has written of it. */
+static int points_agree(size_t file_len, size_t k, uint32_t points, const double *values, const uint8_t *presence)
+{
+    for (uint32_t n = 0; n < points; n++) {
+        double value = 1;
+        if (skeptolyr_point(file, file_len, k, n, &value, 1) != presence[n] || memcmp(&value, values + n, sizeof value) != 0)
+            return 0;
+    }
+    return skeptolyr_refusal_number(skeptolyr_point(file, file_len, k, points, NULL, 0)) == SKEPTOLYR_NO_SUCH_POINT;
+}
+
 static void print_field(size_t file_len, size_t k)
 {
     double values[ROOM];
@@ -51,6 +63,8 @@ static void print_field(size_t file_len, size_t k)
     printf("\n");
     if (!names_agree(file_len, k, skeptolyr_points(answer)))
         printf("the description and the places do not agree\n");
+    if (!points_agree(file_len, k, skeptolyr_points(answer), values, presence))
+        printf("the points alone and the field do not agree\n");
 }
 
 /* Asks for every field of the file, and for one more, which it does not have. */
