@@ -369,7 +369,7 @@ target_link_libraries(with_shared PRIVATE skeptolyr::skeptolyr)
 add_executable(with_archive user.c)
 target_link_libraries(with_archive PRIVATE skeptolyr::static)
 '''
-# Prints the size of the grid of the first field on standard input, and where its last point lies, in degrees or in kilometres.
+# Prints the size of the grid of the first field on standard input, where its last point lies, in degrees or in kilometres, and the value of its first.
 USER = r'''#include <skeptolyr.h>
 #include <stdio.h>
 
@@ -380,6 +380,7 @@ int main(void)
     struct skeptolyr_field field;
     struct skeptolyr_position position;
     struct skeptolyr_sheet_place place;
+    double value;
     size_t file_len = fread(file, 1, sizeof file, stdin);
     if (skeptolyr_is_refusal(skeptolyr_describe_field(file, file_len, 0, &field)))
         return 1;
@@ -387,10 +388,12 @@ int main(void)
         printf("%d x %d, %.2f %.2f\n", (int)field.ni, (int)field.nj, (double)position.latitude / 1e6, (double)position.longitude / 1e6);
     if (!skeptolyr_is_refusal(skeptolyr_sheet_point(file, file_len, 0, (size_t)field.points - 1, &place)))
         printf("%d x %d, %.0f km and %.0f km\n", (int)field.ni, (int)field.nj, (double)place.right / 1e6, (double)place.down / 1e6);
+    if (skeptolyr_point(file, file_len, 0, 0, &value, 1) == 1)
+        printf("%.2f\n", value);
     return 0;
 }
 '''
-PRINTED = {'two-fields.grib2': (0, '2 x 2, 35.00 136.00\n', ''), 'lambert.grib2': (0, '82 x 67, 4050 km and 3300 km\n', '')}
+PRINTED = {'two-fields.grib2': (0, '2 x 2, 35.00 136.00\n291.20\n', ''), 'lambert.grib2': (0, '82 x 67, 4050 km and 3300 km\n263.41\n', '')}
 
 
 def cmake(prefix, folder, version):
@@ -403,7 +406,7 @@ def cmake(prefix, folder, version):
 
 
 def built_by_cmake(prefix, folder):
-    """Compiles a program of three functions by CMake, with the shared library and with the archive, and runs it. CMake notes where the shared library is."""
+    """Compiles a program of four functions by CMake, with the shared library and with the archive, and runs it. CMake notes where the shared library is."""
     status, said = cmake(prefix, folder, VERSION)
     done = subprocess.run(['cmake', '--build', os.path.join(folder, 'made')], stdout=subprocess.PIPE, stderr=subprocess.STDOUT, text=True, env=bare())
     if status or done.returncode:
