@@ -14,7 +14,7 @@ use std::rc::Rc;
 const ROOM: u64 = 64;
 const REBUILDS: usize = 1000;
 /// The interpreter takes ten million steps at most, which are enough for a few more than so many files.
-const FILES: u64 = 100;
+const FILES: u64 = 90;
 
 fn hexadecimal(octets: &[u8]) -> String {
     octets.iter().map(|octet| format!("{:02x}", octet)).collect()
