@@ -349,7 +349,7 @@ def finds_faults(questions):
 
 # ---- full size
 
-FULL_SIZE = {'model levels in groups': shapes.msm, 'a surface under a bitmap': shapes.lfm}
+FULL_SIZE = {'model levels in groups': shapes.msm, 'a surface under a bitmap': shapes.lfm, 'the seas in groups, under a bitmap': shapes.ocean}
 
 
 def full_size(program):

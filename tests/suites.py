@@ -23,7 +23,7 @@ SUITES = [
     Suite('tiling', 3, 'the archive that C links against an independent reading'),
     Suite('fields', 28, 'descriptions, places, sheets and listings against an independent reading'),
     Suite('decoding', 16, 'every double and every presence against an independent reading'),
-    Suite('points', 16, 'the value of one point against an independent reading and against decode'),
+    Suite('points', 17, 'the value of one point against an independent reading and against decode'),
     Suite('samples', 22, 'the samples: one of each refusal, put to the command and to an example program'),
     Suite('drawing', 16, 'pictures of fields, pixel by pixel'),
     Suite('install', 29, 'what make install installs, and its pages against the header'),
