@@ -383,8 +383,8 @@ static size_t points_of(const struct question *q)
     return points;
 }
 
-/* A point of a field that decode takes is as decode has it. Of one that decode refuses with 16, a point is missing, or has a value as long as no point before it
- * was refused, or is refused as the field is. The answer is whether such a refusal was met, now or before. */
+/* A point of a field that decode takes is as decode has it. Of one that decode refuses with 16, a point is missing, or has a value as long as no point before
+ * it was refused, or is refused as the field is. The answer is whether such a refusal was met, now or before. */
 static int judge_by_decode(const struct question *q, uint64_t decoded, struct runs all, size_t n, int is_out)
 {
     double *value = lend(sizeof *value);

@@ -1,5 +1,5 @@
-//! Files on either side of the largest size that is taken, 268,435,456 octets. They are zero but for the heads of their sections, and for the last octet of each
-//! section 7, so that the last value of a field is not like the others.
+//! Files on either side of the largest size that is taken, 268,435,456 octets. They are zero but for the heads of their sections, and for the last octet of
+//! each section 7, so that the last value of a field is not like the others.
 use crate::cases::{described, pointed, Case, Question};
 use crate::make::{number, section6, Point, Scaling, Section1, Section3, Section3Lambert, Section4, Section5};
 use std::rc::Rc;
@@ -69,7 +69,8 @@ fn message(length: usize) -> (Vec<u8>, u64) {
     (file, fields.len() as u64)
 }
 
-/// The largest file that is taken, with its first and its last two fields, and points at the ends of the first; the same with an octet behind it; and zeros of both lengths.
+/// The largest file that is taken, with its first and its last two fields, and points at both ends of the first; the same with an octet behind it; and zeros of
+/// both lengths.
 pub fn largest(take: &mut dyn FnMut(Case) -> bool) {
     let (taken, fields) = message(MOST_OCTETS);
     let mut over = taken.clone();
