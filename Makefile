@@ -32,8 +32,8 @@ check: ## Prove what has changed, and run the programs.
 lib: ## Prove and write target/staticlib/libskeptolyr.a, which C links with include/skeptolyr.h.
 	@python3 -m tools.built library skeptolyr
 
-examples: ## Prove the reader, and compile the example programs over it, target/numbers and target/draw.
-	@python3 -m tools.archive examples/numbers.c examples/draw.c
+examples: ## Prove the reader, and compile the example programs over it, target/numbers, target/point and target/draw.
+	@python3 -m tools.archive examples/numbers.c examples/point.c examples/draw.c
 
 picture: ## Draw the picture of the README anew.
 	@python3 -m tests.readme --picture

@@ -25,7 +25,7 @@ struct subcommand {
     int (*run)(int count, char **words);
 };
 
-extern const struct subcommand check_command, ls_command, show_command, values_command, dump_command, draw_command;
+extern const struct subcommand check_command, ls_command, show_command, values_command, point_command, dump_command, draw_command;
 
 /* ---- report.c: what is said while the program works, and when it ends */
 
@@ -56,7 +56,8 @@ void keep_printing(void);
 /* Takes the option of this name, such as "--json", out of the words before `--`, and says whether it was there. */
 int take_option(const char *name, int *count, char **words);
 
-/* Takes `--` out of the words, which are names then, of which there must be so many. A word that still looks like an option is a misuse. */
+/* Takes `--` out of the words, which are names then, of which there must be so many. A word that still looks like an option is a misuse. A minus before a
+ * digit or a decimal point begins a number, and no option. */
 void names_only(const struct subcommand *subcommand, int least, int most, int *count, char **words);
 
 /* The number that is written in decimal digits and in nothing else, or a misuse. */
@@ -86,6 +87,15 @@ struct decoded {
 };
 struct decoded decode_field(struct octets file, size_t k);
 void release_decoded(struct decoded *decoded);
+
+/* What places a row and what places a column: its latitude and its longitude, in millionths of a degree; or, on a Lambert grid, how far it lies below the
+ * first point and to the right of it, in thousandths of a metre. */
+struct place {
+    int64_t of_row, of_column;
+};
+
+/* Where point n of field k lies. The library has described the field, and the field has the point, so that it cannot be refused. */
+struct place place_of(const char *name, struct octets file, size_t k, size_t n, int on_sheet);
 
 /* Says on standard error that the file, or its field k, is refused: number, place, the library's sentence, which octets break which rule, and what to do. */
 void tell_refusal(const char *name, struct octets file, size_t k, uint64_t answer);

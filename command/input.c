@@ -139,15 +139,35 @@ void release_decoded(struct decoded *decoded)
     decoded->presence = NULL;
 }
 
+struct place place_of(const char *name, struct octets file, size_t k, size_t n, int on_sheet)
+{
+    struct skeptolyr_position position = {0, 0};
+    struct skeptolyr_sheet_place place = {0, 0};
+    uint64_t answer = on_sheet ? skeptolyr_sheet_point(file.first, file.length, k, n, &place)
+                               : skeptolyr_place_point(file.first, file.length, k, n, &position);
+    if (skeptolyr_is_refusal(answer))
+        give_up(name_in_words(name), "has a point that the library does not place", 0,
+                "That cannot be: this program or the library is at fault, so trust neither, and report it");
+    return on_sheet ? (struct place){place.down, place.right} : (struct place){position.latitude, position.longitude};
+}
+
 /* ---- Refusals */
 
-/* What the library cannot know: which fields there are to choose from, and how to look at the octets with this program. */
+/* Says which fields or points there are to choose from. */
+static void tell_choice(const char *what, int64_t count)
+{
+    fprintf(stderr, "skeptolyr: It has %" PRId64 " %s%s: choose one from 0 to %" PRId64 ".\n", count, what, count == 1 ? "" : "s", count - 1);
+}
+
+/* What the library cannot know: which fields and points there are to choose from, and how to look at the octets with this program. */
 static void advise(const char *name, struct octets file, size_t k, uint32_t number)
 {
-    uint32_t fields = skeptolyr_fields(skeptolyr_check(file.first, file.length));
+    struct skeptolyr_field field = {0};
     const char *named = strcmp(name, "-") == 0 ? "FILE" : name;
     if (number == SKEPTOLYR_NO_SUCH_FIELD)
-        fprintf(stderr, "skeptolyr: It has %" PRIu32 " field%s: choose one from 0 to %" PRIu32 ".\n", fields, fields == 1 ? "" : "s", fields - 1);
+        tell_choice("field", skeptolyr_fields(skeptolyr_check(file.first, file.length)));
+    else if (number == SKEPTOLYR_NO_SUCH_POINT && !skeptolyr_is_refusal(skeptolyr_describe_field(file.first, file.length, k, &field)))
+        tell_choice("point", field.points);
     else if (number > SKEPTOLYR_NO_SUCH_FIELD)
         fprintf(stderr, "skeptolyr: To see the octets of the field: skeptolyr dump %s %zu\n", named, k);
     else if (number > SKEPTOLYR_EMPTY)

@@ -126,11 +126,16 @@ int take_option(const char *name, int *count, char **words)
     return is_there;
 }
 
+static int is_option(const char *word)
+{
+    return word[0] == '-' && word[1] != '\0' && word[1] != '.' && (word[1] < '0' || word[1] > '9') && strcmp(word, "--") != 0;
+}
+
 void names_only(const struct subcommand *subcommand, int least, int most, int *count, char **words)
 {
     int kept = 0, names_begin = 0;
     for (int i = 0; i < *count; i++) {
-        if (!names_begin && words[i][0] == '-' && words[i][1] != '\0' && strcmp(words[i], "--") != 0)
+        if (!names_begin && is_option(words[i]))
             misuse(subcommand, "there is no such option", words[i]);
         if (!names_begin && strcmp(words[i], "--") == 0)
             names_begin = 1;

@@ -4,29 +4,10 @@
 #include <stdlib.h>
 #include <unistd.h>
 
-/* What places a row and what places a column: its latitude and its longitude, in millionths of a degree; or, on a Lambert grid, how far it lies below the
- * first point and to the right of it, in thousandths of a metre. */
-struct place {
-    int64_t of_row, of_column;
-};
-
 /* The place of each row and of each column, as the library tells it of the first point in each. */
 struct places {
     int64_t *rows, *columns;
 };
-
-/* Where point n lies. The library has described the field, and the field has the point, so it cannot be refused. */
-static struct place place_of(const char *name, struct octets file, size_t k, size_t n, int on_sheet)
-{
-    struct skeptolyr_position position = {0, 0};
-    struct skeptolyr_sheet_place place = {0, 0};
-    uint64_t answer = on_sheet ? skeptolyr_sheet_point(file.first, file.length, k, n, &place)
-                               : skeptolyr_place_point(file.first, file.length, k, n, &position);
-    if (skeptolyr_is_refusal(answer))
-        give_up(name_in_words(name), "has a point that the library does not place", 0,
-                "That cannot be: this program or the library is at fault, so trust neither, and report it");
-    return on_sheet ? (struct place){place.down, place.right} : (struct place){position.latitude, position.longitude};
-}
 
 /* Each question judges the whole field again, so one is asked for a row and one for a column, and not one for a point. */
 static struct places ask_places(const char *name, struct octets file, size_t k, const struct skeptolyr_field *field)

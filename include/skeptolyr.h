@@ -74,8 +74,9 @@
  * ---- How to link
  *
  * Link with libskeptolyr.so, or with libskeptolyr.a, neither of which needs another library: `pkg-config --cflags --libs skeptolyr` prints the options, and
- * for CMake there is find_package(skeptolyr). Two programs that may be copied are installed with the manual, in share/doc/skeptolyr/examples: numbers.c
- * prints the values of a field, and draw.c makes a picture of one. The command `skeptolyr` answers the same questions without a program.
+ * for CMake there is find_package(skeptolyr). Three programs that may be copied are installed with the manual, in share/doc/skeptolyr/examples: numbers.c
+ * prints the values of a field, point.c prints the value under a pointer, and draw.c makes a picture of a field. The command `skeptolyr` answers the same
+ * questions without a program.
  */
 #ifndef SKEPTOLYR_H
 #define SKEPTOLYR_H
@@ -359,8 +360,8 @@ static inline const char *skeptolyr_refusal_text(uint32_t number)
         "does not mark as many points as there are values. Fetch the file again. If it is refused again, use another reader.";
     case SKEPTOLYR_BAD_PACKING: return "Damaged, or written wrongly: section 7, which starts here, does not hold what section 5 says; its groups or its "
         "length are wrong. Fetch the file again. If it is refused again, tell those who wrote it.";
-    case SKEPTOLYR_NO_ROOM: return "An array that was passed has no room for the answer: for the points of the field after the start position, or for the "
-        "numbers. Pass a longer one: skeptolyr_describe tells how many points there are, and needs 53 numbers itself, for a Lambert grid 60.";
+    case SKEPTOLYR_NO_ROOM: return "An array that was passed has no room for the answer: for the points of the field after the start position, for one value, "
+        "or for the numbers. Pass a longer one: skeptolyr_describe tells how many points there are, and needs 53 numbers itself, for a Lambert grid 60.";
     case SKEPTOLYR_VALUE_OUT_OF_RANGE: return "Damaged, or written wrongly: section 7, which starts here, unpacks to an integer below 0 or above "
         "2,147,483,647. Fetch the file again. If it is refused again, tell those who wrote it.";
     case SKEPTOLYR_NO_SUCH_POINT: return "The field has no point of this number. Points are counted from 0: ask for one below the number of points.";

@@ -43,7 +43,7 @@ def program(crate, source, *more, name=None):
     # Two who compile the same program at once, or while it runs, do not disturb each other: what is whole takes the old one's place.
     with tempfile.TemporaryDirectory(dir=os.path.join(TOP, 'target')) as made:
         program_made, script_made = os.path.join(made, 'program'), os.path.join(made, 'script')
-        subprocess.run([compiler(), *FLAGS, '-O2', '-static', source, *more, archive, '-o', program_made], cwd=TOP, check=True)
+        subprocess.run([compiler(), *FLAGS, '-O2', '-static', source, *more, archive, '-lm', '-o', program_made], cwd=TOP, check=True)
         os.replace(program_made, code)
         if not NATIVE:
             write_script(script_made, code)
