@@ -24,7 +24,7 @@ from tests import fields
 from tests.help import grib, manual, reading, report, terminal
 from tools import TOP, archive, debian
 
-SUBCOMMANDS = ('check', 'ls', 'show', 'values', 'dump', 'draw')
+SUBCOMMANDS = ('check', 'ls', 'show', 'values', 'point', 'dump', 'draw')
 SAMPLES = make.samples()
 EXAMPLE = grib.two_fields()
 FILE = 'field.grib2'
@@ -780,7 +780,7 @@ def are_refused(command):
 def is_no_file(command):
     """A folder and a file that is not there are told of on standard error, and it exits with 3."""
     os.mkdir(command.path('folder'))
-    for before, behind in ((['check'], []), (['ls'], []), (['ls', '--json'], []), (['show'], ['0']), (['values'], ['0'])):
+    for before, behind in ((['check'], []), (['ls'], []), (['ls', '--json'], []), (['show'], ['0']), (['values'], ['0']), (['point'], ['0', '1'])):
         for name, says in (('folder', 'is a folder'), ('nowhere', 'cannot be opened: No such file or directory')):
             yield command.ended(3, *before, name, *behind, prints='[' * ('--json' in before), says=r'\Askeptolyr: %s: %s\. \w.*\.\n\Z' % (name, says))
 
@@ -886,7 +886,8 @@ def cannot_print(command):
     """Where standard output is full, or was closed before, every subcommand says so and exits with 3."""
     command.put(EXAMPLE)
     command.put(large_field(), 'large')
-    lines = [['check', FILE], ['ls', FILE], ['ls', '--json', FILE], ['show', FILE, '0'], ['values', FILE, '0'], ['values', 'large', '0'], ['--help'], ['--version'], ['ls', '--help']]
+    lines = [['check', FILE], ['ls', FILE], ['ls', '--json', FILE], ['show', FILE, '0'], ['values', FILE, '0'], ['values', 'large', '0'], ['point', FILE, '0', '0']]
+    lines += [['--help'], ['--version'], ['ls', '--help']]
     for words in lines:
         with open('/dev/full', 'wb') as full:
             yield command.ended(3, *words, stdout=full, says=r'\Askeptolyr: standard output: could not be written to: No space left on device\. \w.*\.\n\Z')
@@ -980,6 +981,7 @@ def is_misused(command):
         yield command.ended(2, *words, says=r'\Askeptolyr %s: .*\w.*\nusage: skeptolyr %s .*FILE' % (words[0], words[0]))
     yield command.ended(2, 'ls', '--jason', FILE, says=r'\Askeptolyr ls: there is no such option: --jason\n')
     yield command.ended(2, 'show', FILE, '1x', says=r'\Askeptolyr show: K is not the number of a field: 1x\n')
+    yield command.ended(2, 'values', FILE, '-1', says=r'\Askeptolyr values: K is not the number of a field: -1\n')
     for words in (['show', FILE, '01'], ['values', FILE, '00000000000000000000000000001'], ['ls', FILE, '--json'], ['show', '--', FILE, '0'], ['ls', '--json', '--', FILE]):
         if command.run(*words)[0]:
             yield '%s: not taken' % words

@@ -938,7 +938,7 @@ EXTREMES = [[-sys.float_info.max, sys.float_info.max, 0.0, sys.float_info.max / 
 def with_stand_in(draw):
     """The program with that library, in the same folder."""
     draw.put(STAND_IN.encode(), 'stand_in.c')
-    subprocess.run(['gcc', *archive.FLAGS, '-O2', *archive.command_sources(), 'stand_in.c', '-o', 'stand_in'], cwd=draw.folder, check=True)
+    subprocess.run(['gcc', *archive.FLAGS, '-O2', *archive.command_sources(), 'stand_in.c', '-lm', '-o', 'stand_in'], cwd=draw.folder, check=True)
     draw.put(EXAMPLE)
     return Draw([draw.path('stand_in')], draw.folder)
 

@@ -124,6 +124,27 @@ def are_printed():
     return report.judged('the program numbers', faults)
 
 
+def are_pointed_at():
+    """The program point prints the value under a pointer, and says why it does not: also of a damaged field, up to the damage, and of a column behind the last."""
+    point, faults = archive.program('skeptolyr', 'examples/point.c'), []
+    two, damaged, lambert = (os.path.join(SAMPLES, name) for name in ('two-fields.grib2', 'refused/16-difference.grib2', 'lambert.grib2'))
+    of_lambert = reading.decode(MADE['lambert.grib2'], 0, 0, 1 << 24, 1 << 24)[3]
+    wanted = [((two, '1', column, row), (0, printed, '')) for column, row, printed in (('0', '0', '0.5\n'), ('1', '0', 'missing\n'), ('0', '1', '0.7\n'))]
+    wanted += [((lambert, '0', '81', '66'), (0, '%.15g\n' % of_lambert[-1], '')), ((lambert, '0', '5', '2'), (0, '%.15g\n' % of_lambert[2 * 82 + 5], ''))]
+    wanted += [((two, '0', *words), (1, '', manual.refused(17, 0) + '\n')) for words in (('2', '0'), ('0', '2'), ('18446744073709551615', '0'), ('0', '9223372036854775808'))]
+    wanted += [((two, '2', '0', '0'), (1, '', manual.refused(8, 0) + '\n')), ((os.path.join(SAMPLES, 'accident.grib2'), '0', '0', '0'), (1, '', manual.refused(7, 0) + '\n'))]
+    # Of the damaged field the first two integers are in their range, and point 5 is missing. RULES, "Rebuilding a value": (R + X 2^E) / 10^D.
+    wanted += [((damaged, '0', str(n % 4), str(n // 4)), (0, printed, '')) for n, printed in ((0, '-9.375\n'), (1, 'missing\n'), (2, '-9.95\n'), (5, 'missing\n'))]
+    wanted += [((damaged, '0', str(n % 4), str(n // 4)), (1, '', manual.refused(16, 200) + '\n')) for n in (3, 4, 6, 11)]
+    faults += ['%s: %s, and not %s' % (words, run(*point, *words), want) for words, want in wanted if run(*point, *words) != want]
+    misused = [(two,), (two, '0', '0'), (two, '0', '0', '0', '0'), ('no such file', '0', '0', '0'), (SAMPLES, '0', '0', '0')]
+    misused += [(two, *('0' if i != at else word for i in range(3))) for at in range(3) for word in ('first', '', '-1', '+1', ' 1', '1x', '9' * 30)]
+    faults += ['%s: no usage' % (words,) for words in misused if run(*point, *words)[:2] != (2, '') or 'usage: point ' not in run(*point, *words)[2]]
+    with open('/dev/full', 'wb') as full:
+        faults += ['a full disk is not seen'] * (subprocess.run([*point, two, '0', '0', '0'], stdout=full).returncode != 2)
+    return report.judged('the program point', faults)
+
+
 # Asks about a field of the file on standard input: for its values, in arrays with so little room, or for the place in degrees of a point.
 ASKS = r'''
 #include <skeptolyr.h>
@@ -165,7 +186,7 @@ def are_given_to_c(folder):
 
 def main():
     skeptolyr = archive.skeptolyr()
-    results = [are_as_made(), are_told_of(), are_read_as_told(), places_are_told(), are_printed()]
+    results = [are_as_made(), are_told_of(), are_read_as_told(), places_are_told(), are_printed(), are_pointed_at()]
     with tempfile.TemporaryDirectory() as folder:
         results += [are_given_to_c(folder), are_drawn(skeptolyr, folder)]
         results += [is_refused(skeptolyr, refusal, folder) for refusal in make.REFUSALS if refusal.is_for_commands()]

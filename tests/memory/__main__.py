@@ -247,10 +247,12 @@ def finds_what_is_planted(watched):
 # Those that take many files in one run, and those that take one file: what stands before its name, and behind it.
 MANY = {'check': ['check'], 'ls': ['ls'], 'ls --json': ['ls', '--json']}
 SINGLE = {
-    'show': [(['show'], ['0']), (['show'], ['1'])], 'values': [(['values'], ['0']), (['values'], ['1'])], 'dump': [(['dump'], []), (['dump'], ['1'])],
+    'show': [(['show'], ['0']), (['show'], ['1'])], 'values': [(['values'], ['0']), (['values'], ['1'])],
+    'point': [(['point'], ['0', '1']), (['point'], ['0', '35.4', '135.7']), (['point'], ['1', '3'])], 'dump': [(['dump'], []), (['dump'], ['1'])],
     'draw': [(['draw'], ['0', '%s.png']), (['draw', '--range', '-1', '300'], ['1', '-'])]}
 MISUSES = [
     [], ['list'], ['check'], ['ls', '--jason', 'FILE'], ['show', 'FILE'], ['show', 'FILE', '1x'], ['values', 'FILE', '99999999999999999999'],
+    ['point', 'FILE', '0'], ['point', 'FILE', '0', '1.5'], ['point', 'FILE', '0', '91', '0'], ['point', 'FILE', '0', '-1', '-'],
     ['dump', 'FILE', '0', '1'], ['draw', 'FILE', '0'], ['draw', '--range', '1', 'FILE', '0', '-'], ['draw', 'FILE', '0', ''], ['help', 'list']]
 
 
