@@ -21,6 +21,8 @@ PEERS = {'ecCodes': ('eccodes.h', 'libeccodes-dev', ['-DECCODES', '-leccodes']),
 ON_SHEET = functools.partial(shapes.msm, grid=shapes.cone)
 FILES = {'LFM-like': shapes.lfm, 'MSM-like': shapes.msm, 'MSM-like, Lambert': ON_SHEET, 'ocean-like': shapes.ocean, '300 small fields': shapes.small_fields}
 GROWING = ('LFM-like', 'MSM-like')
+# The files of which one point is asked for: simple packing over a bitmap, complex packing, and complex packing over a bitmap.
+POINTED_AT = ('LFM-like', 'MSM-like', 'ocean-like')
 TIMES = (1, 2, 4, 8)
 PASSES = 5
 TINY_FIELDS = 2000
@@ -90,6 +92,24 @@ def compare(decode, files):
     print('\n'.join('  ' + note for note in notes or ['All agree: plain C in every bit, the others within their rounding.']))
 
 
+def one_point(point, files):
+    """One point of a field against decode of all of them, and against ecCodes, by lines of which point, its number, whether it is present, its time, its part
+    of decode's, up to four times of ecCodes, and a verdict."""
+    rows, notes = [], []
+    for name in POINTED_AT:
+        say('timing one point of the %s file' % name)
+        (_, described), (_, decoded), *lines = (line.split() for line in subprocess.run([point], input=files[name], stdout=subprocess.PIPE, check=True).stdout.decode().splitlines())
+        rows.append([name, '', 'describe %.0f us' % float(described), 'decode %.0f us' % float(decoded)])
+        for which, n, _, took, part, *theirs, said in lines:
+            above = float(took) - float(described)
+            rows.append(['  ' + which, n, '%.0f us' % float(took), '%.0f us' % above, '%.3f' % float(part), '%.0f' % (1 / float(part))] + ['%.0f us' % float(time) for time in theirs])
+            notes += ['The %s point of the %s file %s.' % (which, name, said)] * (said != 'agrees')
+    print('\nOne point of a field. Its part of decode is a median over the rounds.')
+    heads = ['ecCodes nearest', 'and the next', 'ecCodes element', 'and the next'] * any(len(row) > 6 for row in rows)
+    table(['', 'point', 'skeptolyr', 'above describe', 'part of decode', 'times faster', *heads], *rows)
+    print('\n'.join('  ' + note for note in notes or ["All agree: the value is decode's, and that of ecCodes is near it."]))
+
+
 def tiny_fields(fields):
     """A message of so many fields of 2 x 2 points."""
     field = grib.instant(0, 0, 103, (0, 2), 1, 1) + grib.section5(4, bytes(4), 0, 0, 8) + grib.section6(255) + grib.section7(range(4), 8)
@@ -141,7 +161,8 @@ def tell_memory(stack, archive, files):
 
 def main():
     archive = sys.argv[1] if len(sys.argv) > 1 else native_archive()
-    decode = program('decode', archive, os.path.join(TOP, 'bench', 'plain.c'), *peers())
+    theirs = peers()
+    decode, point = program('decode', archive, os.path.join(TOP, 'bench', 'plain.c'), *theirs), program('point', archive, *theirs)
     # A function of the C library that is looked up at its first call would show on the stack.
     stack = program('stack', archive, '-Wl,-z,now')
     files = {}
@@ -149,6 +170,7 @@ def main():
         say('making the %s file' % name)
         files[name] = shape()
     compare(decode, files)
+    one_point(point, files)
     growing = list(growing_files())
     grow(decode, growing)
     fixed = {name: file for name, file in files.items() if name not in GROWING}

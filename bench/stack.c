@@ -1,4 +1,4 @@
-/* Prints the most stack that any of the five functions takes for the first and the last field of the file on standard input, and for one behind them, in
+/* Prints the most stack that any of the six functions takes for the first and the last field of the file on standard input, and for one behind them, in
  * octets, with its return address and the arguments that are handed on the stack. The call runs on a stack of its own that was painted
  * before, and the deepest octet that lost its paint tells. */
 #include "skeptolyr.h"
@@ -13,7 +13,7 @@ enum { STACK = 1 << 20, MOST_POINTS = 16777216 };
 static uint8_t stack[STACK], *file, *presence, *caller;
 static double *values;
 static int64_t numbers[SKEPTOLYR_DESCRIPTION_LAMBERT];
-static size_t length, asked;
+static size_t length, asked, last;
 static volatile uint64_t answer;
 static ucontext_t outside, inside;
 
@@ -27,6 +27,13 @@ static void decode(void)
 {
     caller = __builtin_frame_address(0);
     answer = skeptolyr_decode(file, length, asked, 0, values, MOST_POINTS, presence, MOST_POINTS);
+}
+
+/* The last point, to which all integers of the field lead. */
+static void point(void)
+{
+    caller = __builtin_frame_address(0);
+    answer = skeptolyr_point(file, length, asked, last, values, 1);
 }
 
 static void describe(void)
@@ -75,10 +82,13 @@ int main(void)
         return 2;
     length = fread(file, 1, room, stdin);
     size_t fields = skeptolyr_fields(skeptolyr_check(file, length)), fields_asked[] = {0, fields - 1, fields};
-    void (*const calls[])(void) = {check, decode, describe, place, sheet};
-    for (size_t i = 0; i < 15; i++) {
+    void (*const calls[])(void) = {check, decode, point, describe, place, sheet};
+    for (size_t i = 0; i < 18; i++) {
+        struct skeptolyr_field field = {0};
+        asked = fields_asked[i % 3];
+        skeptolyr_describe_field(file, length, asked, &field);
+        last = field.points > 0 ? (size_t)field.points - 1 : 0;
         for (int paint = 0; paint < 256; paint += 85) {
-            asked = fields_asked[i % 3];
             size_t deep = depth(calls[i / 3], paint);
             most = deep > most ? deep : most;
         }
