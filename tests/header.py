@@ -45,7 +45,7 @@ VERDICTS = {
 # What a text has to say besides: which templates are read, and which question is for which kind of grid.
 SAID = {
     10: ['3.0 and 3.30 are'], 11: ['4.0 and 4.8 are'], 12: ['5.0 and 5.3 are'],
-    20: ['skeptolyr_place about a grid in degrees', 'skeptolyr_sheet about a Lambert grid']}
+    15: ['for the points', 'for one value', 'for the numbers'], 20: ['skeptolyr_place about a grid in degrees', 'skeptolyr_sheet about a Lambert grid']}
 # The numbers that no refusal has, of those that are tried: 0 and all behind the last.
 NO_REFUSALS = [0, 21, 22]
 
