@@ -4,9 +4,9 @@
  *   decode MICROSECONDS
  *   WHICH N IS_PRESENT MICROSECONDS OF_DECODE [for ecCodes: ONE_NEAREST NEXT_NEAREST ONE_ELEMENT NEXT_ELEMENT] VERDICT
  *
- * A last line each for the first, the middle and the last point that is present, and for one that is missing if one is. OF_DECODE is the time of the point over
- * that of decode. ecCodes is asked for the nearest point to the place of this one, and for this element of the values: once with a new handle, and again with
- * the same handle and grid, as a viewer does whose pointer moves. The verdict is whether the value is decode's, and ecCodes' near it.
+ * There is such a line for the first, the middle and the last point that is present, and for one that is missing if one is. OF_DECODE is the time of the
+ * point over that of decode. ecCodes is asked for the nearest point to the place of this one, and for this element of the values: once with a new handle, and
+ * again with the same handle and grid, as a viewer does whose pointer moves. The verdict is whether the value is decode's, and that of ecCodes near it.
  *
  * Times are medians, of the processor's time for this thread, since a machine is seldom idle. What is timed together is timed in turns. */
 #include "skeptolyr.h"

@@ -67,7 +67,8 @@ static struct request read_request(int count, char **words)
         request.n = number_in_word(&point_command, words[2], "N is not the number of a point, and a place is two words, LATITUDE LONGITUDE");
         return request;
     }
-    request.place.latitude = degrees_in_word(words[2], -QUARTER_TURN, QUARTER_TURN, "LATITUDE is not a number of degrees from -90 to 90, such as 35.68 or -12");
+    request.place.latitude =
+        degrees_in_word(words[2], -QUARTER_TURN, QUARTER_TURN, "LATITUDE is not a number of degrees from -90 to 90, such as 35.68 or -12");
     request.place.longitude =
         eastward(0, degrees_in_word(words[3], -HALF_TURN, TURN, "LONGITUDE is not a number of degrees from -180 to 360, such as 139.77 or -70.5"));
     return request;
@@ -206,8 +207,9 @@ static void say_no_degrees(const struct asked *asked)
     const struct request *request = asked->request;
     fprintf(stderr, "skeptolyr: %s, field %zu: its grid is a Lambert grid, whose points are placed in metres, and not by latitude and longitude.\n",
             name_in_words(request->name), request->k);
-    fprintf(stderr, "skeptolyr: Ask for a point by its number: skeptolyr point %s %zu N, where N is %" PRId64 " x row + column, counted from 0 in the upper left.\n",
-            strcmp(request->name, "-") == 0 ? "FILE" : request->name, request->k, asked->field.ni);
+    fprintf(stderr, "skeptolyr: Ask for a point by its number: skeptolyr point %s %zu N, where N is ",
+            strcmp(request->name, "-") == 0 ? "FILE" : request->name, request->k);
+    fprintf(stderr, "%" PRId64 " x row + column, counted from 0 in the upper left.\n", asked->field.ni);
 }
 
 static void say_outside(const struct asked *asked)
@@ -286,11 +288,13 @@ static int point(int count, char **words)
 
 const struct subcommand point_command = {
     "point", "FILE K { N | LATITUDE LONGITUDE }", "value of one point of field K, or of the nearest one to a place",
-    "Prints one line about one point of field K of FILE: its number, its place as `skeptolyr values` tells it, and its value in 17 digits, from which the very\n"
-    "same double can be read, or the word `missing`. The eighth word of the line is the value. The field is not unpacked as a whole, so that this is quick; and\n"
-    "a field that `skeptolyr values` refuses with 16 can still tell the points before the damage. Fields and points are counted from 0, and points along the rows.\n\n"
-    "With LATITUDE and LONGITUDE it is the point that is nearest to that place, by the shortest way on a sphere of the field's radius; the line then also has\n"
-    "the length of that way in kilometres. Of points that are equally near it is the nearest in longitude, and then the one with the lowest number. Both are\n"
-    "decimal degrees: a latitude from -90 to 90, which is below 0 in the south, and a longitude from -180 to 360 to the east. They are rounded to millionths of\n"
-    "a degree, which are 11 cm. A place that is more than half a step outside the grid has no nearest point, and a point of a Lambert grid is asked for by N.",
+    "Prints one line about one point of field K of FILE: its number, its place as `skeptolyr values` tells it, and its value in 17 digits, from which\n"
+    "the very same double can be read, or the word `missing`. The eighth word of the line is the value. Fields and points are counted from 0, and points\n"
+    "along the rows. The field is not unpacked as a whole, so that this is quick. A damaged field that `skeptolyr values` refuses with 16 can still tell\n"
+    "the points before the damage.\n\n"
+    "With LATITUDE and LONGITUDE it is the point that is nearest to that place, by the shortest way on a sphere of the field's radius. The line then also\n"
+    "has the length of that way in kilometres. Of points that are equally near it is the nearest in longitude, and then the one with the lowest number.\n"
+    "Both words are decimal degrees, rounded to millionths, which are 11 cm: a latitude from -90 to 90, which is below 0 in the south, and a longitude\n"
+    "from -180 to 360, to the east. A place that is more than half a step outside the grid has no nearest point. A point of a Lambert grid is asked for\n"
+    "by its number alone.",
     point};

@@ -155,12 +155,12 @@ uint64_t skeptolyr_decode(const uint8_t *file, size_t file_len, size_t k, size_t
 
 /* Tells the value of point `n` of field `k`, or that the point is missing. Points are counted from 0, along the rows of the grid.
  *
- * `value[0]` becomes the value, and the answer is 1. Where the point is missing, `value[0]` becomes 0 and the answer is 0. Where skeptolyr_decode answers, these
- * are the very numbers that it writes to `values[start + n]` and to `presence[start + n]`, for every n.
+ * `value[0]` becomes the value, and the answer is 1. Where the point is missing, `value[0]` becomes 0 and the answer is 0. Where skeptolyr_decode answers,
+ * these are the very numbers that it writes to `values[start + n]` and to `presence[start + n]`, for every n.
  *
- * It is for the value under a pointer: of a field in simple packing it reads one packed number, and of one in complex packing it works out the integers up to
- * the point's own, and none behind it. So a damaged field can still tell a point: where skeptolyr_decode refuses with 16, a point is told if the integers up to
- * its own are in their range, and a missing point is missing in any case.
+ * It is for the value under a pointer: of a field in simple packing it reads one packed number, and of one in complex packing it works out the integers up
+ * to the point's own, and none after it. So a damaged field can still tell a point: where skeptolyr_decode refuses with 16, a point is told if the integers
+ * up to its own are in their range, and a missing point is missing in any case.
  *
  * Takes    the file, `k`, `n`, and an array of one element or more, as `&value, 1`. No check is needed before.
  * Returns  1, or 0 where the point is missing; or a refusal from 1 to 14, 17 where the field has no point `n`, 15 where the array has no element, or 16 where

@@ -435,7 +435,7 @@ def cmake_finds(scratch):
 # ---- the installed programs
 
 def programs_run(scratch):
-    """The installed programs answer as their pages say: listing on samples, skeptolyr with values, a picture, a refusal, wrong words, and no file."""
+    """The installed programs answer as their pages say: listing on samples, skeptolyr with values, a point, a picture, a refusal, wrong words, and no file."""
     programs, picture = os.path.join(scratch, 'usr', 'bin'), os.path.join(scratch, 'picture.png')
     for sample in SAMPLES:
         wanted, got = (0, reading.listing(octets_of(SAMPLES[sample])), ''), asked([os.path.join(programs, 'skeptolyr-listing')], sample)
@@ -444,7 +444,8 @@ def programs_run(scratch):
     program, two, accident = os.path.join(programs, 'skeptolyr'), SAMPLES['two-fields.grib2'], SAMPLES['accident.grib2']
     for words, status, start in [(['--version'], 0, 'skeptolyr %s\n' % VERSION), (['check', two], 0, two + ': 1 message, 2 fields'),
                                  (['check', accident], 1, 'skeptolyr: %s: %s' % (accident, manual.refused(7, 0))), (['chekc', two], 2, 'skeptolyr: '),
-                                 (['check', os.path.join(scratch, 'not there')], 3, 'skeptolyr: '), (['draw', two, '1', picture], 0, '')]:
+                                 (['check', os.path.join(scratch, 'not there')], 3, 'skeptolyr: '), (['draw', two, '1', picture], 0, ''),
+                                 (['point', two, '0', '35', '134.9'], 0, 'point 2 latitude 35.000000 longitude 135.000000 value 274.80000000000001 distance_km ')]:
         ended, out, said = asked([program, *words], 'two-fields.grib2')
         if ended != status or not (said if status else out).startswith(start):
             yield 'skeptolyr %s: ended with %d: %s' % (' '.join(words), ended, out + said)
@@ -718,7 +719,7 @@ def pages_show_what_programs_print(scratch):
     """The pages of the programs show what is printed of samples, word for word; three dots stand for what is left out."""
     folder, programs = os.path.join(scratch, 'samples'), os.path.join(scratch, 'usr', 'bin')
     shutil.copytree(os.path.join(TOP, 'samples'), folder)
-    for name, least in (('skeptolyr', 9), ('skeptolyr-listing', 2)):
+    for name, least in (('skeptolyr', 11), ('skeptolyr-listing', 2)):
         commands = commands_shown(in_long_lines(scratch, 'share/man/man1/%s.1' % name)[0])
         if len(commands) < least:
             yield '%s.1 shows %d commands' % (name, len(commands))

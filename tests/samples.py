@@ -133,7 +133,7 @@ def are_pointed_at():
     wanted += [((lambert, '0', '81', '66'), (0, '%.15g\n' % of_lambert[-1], '')), ((lambert, '0', '5', '2'), (0, '%.15g\n' % of_lambert[2 * 82 + 5], ''))]
     wanted += [((two, '0', *words), (1, '', manual.refused(17, 0) + '\n')) for words in (('2', '0'), ('0', '2'), ('18446744073709551615', '0'), ('0', '9223372036854775808'))]
     wanted += [((two, '2', '0', '0'), (1, '', manual.refused(8, 0) + '\n')), ((os.path.join(SAMPLES, 'accident.grib2'), '0', '0', '0'), (1, '', manual.refused(7, 0) + '\n'))]
-    # Of the damaged field the first two integers are in their range, and point 5 is missing. RULES, "Rebuilding a value": (R + X 2^E) / 10^D.
+    # Of the damaged field the first two integers are in their range, and point 5 is missing. RULES, "From X to a double": (R + X 2^E) / 10^D.
     wanted += [((damaged, '0', str(n % 4), str(n // 4)), (0, printed, '')) for n, printed in ((0, '-9.375\n'), (1, 'missing\n'), (2, '-9.95\n'), (5, 'missing\n'))]
     wanted += [((damaged, '0', str(n % 4), str(n // 4)), (1, '', manual.refused(16, 200) + '\n')) for n in (3, 4, 6, 11)]
     faults += ['%s: %s, and not %s' % (words, run(*point, *words), want) for words, want in wanted if run(*point, *words) != want]
