@@ -88,7 +88,7 @@ static int64_t larger(int64_t number, int64_t other)
     return number > other ? number : other;
 }
 
-/* Does the place lie in the area of the grid, or at most half a step outside it? The steps that a file tells may be cut by less than a millionth, so that one
+/* Does the place lie in the area of the grid, or at most half a step outside it? The steps that a file tells may be up to a millionth too short, so that one
  * millionth more is allowed: a grid that goes around the earth then has no gap. */
 static int is_in_area(const struct asked *asked)
 {

@@ -105,7 +105,7 @@ def nearest(grid, latitude, longitude):
 
 
 def is_outside(grid, latitude, longitude):
-    """Is the place more than half a step outside? The steps of a file may be cut by less than a millionth."""
+    """Is the place more than half a step outside? The steps of a file may be up to a millionth too short."""
     (north, west), (south, _) = grid['first'], grid['last']
     width, east = reading.span_east(grid['first'], grid['last']), (longitude - west) % TURN
     beyond = 0 if east <= width else min(east - width, TURN - east)
