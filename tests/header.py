@@ -175,8 +175,8 @@ NAN = 0xfff0123456789abc
 
 
 class Sample(NamedTuple):
-    """A file of two fields; the numbers of the second, and where its last point but one lies, in degrees or on the sheet; and the arguments of a call. No two of
-    these are equal, and a call in which two of them have changed places has another outcome. The array for the question that is refused has no room."""
+    """A file of two fields; the numbers of the second, and where its last point but one lies, in degrees or on the sheet; and the arguments of a call. No two
+    of these are equal, and a call in which two of them have changed places has another outcome. The array for the question that is refused has no room."""
     file: bytes
     description: list
     position: list

@@ -1,5 +1,6 @@
 /* What a user's program does: it puts the file on standard input to the functions of the installed header, all of them, and prints what they answer. Of
- * descriptions, places and single points it prints only where they do not agree. tests/install.py compiles it as C and as C++, with what pkg-config says and nothing else. */
+ * descriptions, places and single points it prints only where they do not agree. tests/install.py compiles it as C and as C++, with what pkg-config says and
+ * nothing else. */
 #include <skeptolyr.h>
 
 #include <stdio.h>
