@@ -240,6 +240,7 @@ STATEMENTS = {
     'examples': ('theorems_demands/proofs/Examples.antt', ['pub examples : Examples']),
     'calls': ('theorems_calls/proofs/Calls.antt', ['pub calls : Calls']),
     'no-impostor-for-c': ('theorems_calls/proofs/Impostors.antt', ['pub no-impostor-for-c : NoImpostorForC']),
+    'no-impostor-for-point': ('theorems_calls/proofs/PointImpostors.antt', ['pub no-impostor-for-point : NoImpostorForPoint']),
     'rattle-calls': ('theorems_calls/proofs/Calls.antt', ['pub rattle-calls : RattleCalls']),
     'section-limits': ('theorems_limits/proofs/Limits.antt', ['pub section-limits : SectionLimits']),
 }
