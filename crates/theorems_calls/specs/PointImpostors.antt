@@ -5,10 +5,12 @@ use mathlib.Core.Path.{_≡_}
 use mathlib.Core.List.{List}
 use lib.Ieee.{Float}
 use lib.ListN.{length}
+use Rattle.section_3_geometry.specs.declared.Grid.{Grid}
 use Rattle.question_decode.specs.Decoding.{answer}
 use Rattle.question_point.specs.declared.Pointed.the-variants as Pointed
 use Rattle.question_point.specs.Point.{pointInto}
 use Rattle.skeptolyr.specs.Codes.{decodeCode, pointCode, pointLeft}
+use Rattle.theorems_demands.specs.Demand2.{HasPoint}
 
 -- What a call leaves: its answer, and the run.
 pub record Shown : Type 0 where
@@ -31,8 +33,10 @@ RefusedByDecode file k = 2 ^ 63 ≤ decodeCode (answer file k 0 16777216 1677721
 
 -- What no function does that meets the contract of skeptolyr_point.
 pub record NoImpostorForPoint : Type 0 where
-  -- One that tells of point 0 for every n, one that tells the next point, and one that answers and puts nothing.
-  pub tells-point-0 : (f : Pointer) → MeetsPoint f → ((file : List ℕ) (k n : ℕ) (run : List Float) → f file k n run .answer ≡ f file k 0 run .answer) → ⊥
+  -- One that tells of point 0 for every point that the field has, one that tells the next point, and one that answers and puts nothing.
+  pub tells-point-0 :
+      (f : Pointer) → MeetsPoint f →
+      ((file : List ℕ) (k n : ℕ) (g : Grid) (run : List Float) → HasPoint file k n g → f file k n run .answer ≡ f file k 0 run .answer) → ⊥
   pub tells-the-next : (f : Pointer) → MeetsPoint f → ((file : List ℕ) (k n : ℕ) (run : List Float) → shown file k (n + 1) run .answer < 2 ^ 63 → f file k n run ≡ shown file k (n + 1) run) → ⊥
   pub tells-nothing : (f : Pointer) → MeetsPoint f → ((file : List ℕ) (k n : ℕ) (run : List Float) → f file k n run .run ≡ run) → ⊥
   -- One that refuses a field's points wherever decode refuses the field, and one that so refuses those that are missing.
@@ -40,5 +44,7 @@ pub record NoImpostorForPoint : Type 0 where
   pub refuses-the-missing :
       (f : Pointer) → MeetsPoint f →
       ((file : List ℕ) (k n : ℕ) (run : List Float) → RefusedByDecode file k → pointInto file k n (length run) ≡ Pointed.Missing → 2 ^ 63 ≤ f file k n run .answer) → ⊥
-  -- One that tells every point of a field of which it tells one.
-  pub tells-every-point : (f : Pointer) → MeetsPoint f → ((file : List ℕ) (k n : ℕ) (run : List Float) → f file k 0 run .answer < 2 ^ 63 → n < 4 → f file k n run .answer < 2 ^ 63) → ⊥
+  -- One that tells every point that a field has, and so never refuses with 16.
+  pub tells-every-point :
+      (f : Pointer) → MeetsPoint f →
+      ((file : List ℕ) (k n : ℕ) (g : Grid) (run : List Float) → HasPoint file k n g → 1 ≤ length run → f file k n run .answer < 2 ^ 63) → ⊥
