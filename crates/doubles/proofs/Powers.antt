@@ -1,17 +1,18 @@
--- Each power that the rebuild takes is exact: 2 ^ E from its bit pattern, for E from -127 to 127, and 10 ^ n from the table, for n up to 22.
+-- Each power that the rebuild takes is exact: 2 ^ E from its bit pattern, for E from -127 to 127, and 10 ^ n by n products with ten, for n up to 22.
 use mathlib.Core.Path.{_≡_, refl, sym, ap, _∙_, subst}
-use mathlib.Core.List.{List, [], _∷_, map}
 use Prim.Native.Nat.{ℕ, zero, suc, _+_, _-_, _*_, _/_, _%_, _^_, _≤_, _<_}
-use native.Mathlib.Nat.{eq-or-lt-of-le, le-of-suc-le-suc, not-suc-le-zero}
+use native.Mathlib.Nat.{lt-of-lt-of-le, lt-of-le-of-lt, mul-assoc, mul-one, mul-mul-mul-comm, add-mul-mod-self-right, pow-suc, pow-le-pow-right}
 use native.Mathlib.Omega.{arith}
-use mathlib.Core.Logic.{inl, inr}
-use mathlib.Core.Bool.{Bool, false, true, not}
+use mathlib.Core.Bool.{Bool, false, true, not, _&&_}
 use borrow.Author.Tests.{le-leb, lt-leb, ne-eqb}
-use lib.Dec.{T}
+use lib.Dec.{T, leb, ltb, eqb, lt→ltb, lit<}
+use lib.Pow.{pow-add, pow-mono, shl-lt}
 use lib.IntN.{ℤ, pos, negsuc}
-use lib.ListN.{getD}
-use lib.Ieee.{Float, nan, fin, binary64, minus, ofFields, ofBits, nanBits, isNan}
+use lib.Ieee.{fin, binary64, minus, round, mul, ofFields, ofBits, nanBits, isNan, fits}
+use lib.Ieee.Fits.{and-i, eq→eqb, round-fits}
 use lib.Ieee.Bits.{nanBits-is}
+use lib.Ieee.Exact.{round-exact}
+use lib.Ieee.Back.{whole-unique}
 use Rattle.octets.specs.Numbers.{wholeOf}
 use Rattle.doubles.specs.Doubles.{powerOfTwo, powerOfTen}
 
@@ -56,30 +57,40 @@ pub ordinary-pattern : (b : ℕ) (e : ℤ) → ofBits binary64 b ≡ powerOfTwo 
 unfolding isNan
 ordinary-pattern b e p = subst (λ (t : Bool). T (not t)) (sym (nanBits-is binary64 b ∙ ap isNan p)) tt
 
--- What holds at each place below n, as one tuple, and the part of it at one place.
-abbrev Each : (ℕ → Type 0) → ℕ → Type 0
-Each P zero = Unit {0}
-Each P (suc n) = Each P n × P n
+-- A double holds m x 2 ^ k where m is odd and has no more than 53 binary digits, and the whole is below 2 ^ 1024.
+held : (m k : ℕ) → m % 2 ≡ 1 → m < 2 ^ 53 → k ≤ 971 → T (fits binary64 (fin false m (pos k)))
+unfolding fits
+held zero k odd few small = absurd (omega arith)
+held (suc m) k odd few small =
+    let digits = eqb (suc m % 2) 1 && ltb (suc m) (2 ^ 53) in
+    and-i (digits && leb 1 (2 ^ 1074)) (ltb (suc m * 2 ^ k) (2 ^ 1024 * 1))
+    (and-i digits (leb 1 (2 ^ 1074)) (and-i (eqb (suc m % 2) 1) (ltb (suc m) (2 ^ 53)) (eq→eqb odd) (lt→ltb (suc m) (2 ^ 53) few)) tt)
+    (lt→ltb (suc m * 2 ^ k) (2 ^ 1024 * 1) (lt-of-lt-of-le (shl-lt 53 k few) (pow-mono {j = 1024} (omega arith))))
 
-pick : (P : ℕ → Type 0) (n : ℕ) → Each P n → (i : ℕ) → i < n → P i
-pick P zero all i h = absurd (not-suc-le-zero h)
-pick P (suc n) all i h = elim (eq-or-lt-of-le (le-of-suc-le-suc h)) [ inl e ↦ subst P (sym e) (all .1) | inr l ↦ pick P n (all .0) i l ]
+-- So rounding leaves it as it is.
+unrounded : (m k : ℕ) → m % 2 ≡ 1 → m < 2 ^ 53 → k ≤ 971 → round binary64 false (m * 2 ^ k) 1 ≡ fin false m (pos k)
+unrounded m k odd few small =
+    whole-unique binary64 (round binary64 false (m * 2 ^ k) 1) (fin false m (pos k)) false (m * 2 ^ k) (round-fits binary64 false (m * 2 ^ k) 1) (held m k odd few small)
+    (round-exact binary64 false (m * 2 ^ k) 1 m (k + 1074) (lit< tt) few
+    (lt-of-lt-of-le (shl-lt 53 (k + 1074) few) (pow-mono {i = 53 + (k + 1074)} {j = 2098} (omega arith)))
+    (mul-assoc m (2 ^ k) (2 ^ 1074) ∙ ap (λ (x : ℕ). m * x) (sym (pow-add 2 k 1074)) ∙ sym (mul-one (m * 2 ^ (k + 1074)))))
+    (refl, refl)
 
--- The table, as the source has it, by the patterns of its entries.
-abbrev tens : List Float
-tens =
-    map (ofBits binary64)
-    (0x3ff0_0000_0000_0000 ∷ 0x4024_0000_0000_0000 ∷ 0x4059_0000_0000_0000 ∷ 0x408f_4000_0000_0000 ∷ 0x40c3_8800_0000_0000 ∷ 0x40f8_6a00_0000_0000
-    ∷ 0x412e_8480_0000_0000 ∷ 0x4163_12d0_0000_0000 ∷ 0x4197_d784_0000_0000 ∷ 0x41cd_cd65_0000_0000 ∷ 0x4202_a05f_2000_0000 ∷ 0x4237_4876_e800_0000
-    ∷ 0x426d_1a94_a200_0000 ∷ 0x42a2_309c_e540_0000 ∷ 0x42d6_bcc4_1e90_0000 ∷ 0x430c_6bf5_2634_0000 ∷ 0x4341_c379_37e0_8000 ∷ 0x4376_3457_85d8_a000
-    ∷ 0x43ab_c16d_674e_c800 ∷ 0x43e1_58e4_6091_3d00 ∷ 0x4415_af1d_78b5_8c40 ∷ 0x444b_1ae4_d6e2_ef50 ∷ 0x4480_f0cf_064d_d592 ∷ [])
+-- 5 ^ n is odd, and up to 22 it has no more than 53 binary digits: 5 ^ 22 has 52.
+five-odd : (n : ℕ) → 5 ^ n % 2 ≡ 1
+five-odd zero = refl
+five-odd (suc n) = ap (λ (x : ℕ). x % 2) (pow-suc 5 n ∙ fivefold (5 ^ n)) ∙ add-mul-mod-self-right (5 ^ n) (5 ^ n * 2) 2 ∙ five-odd n
+  where
+    fivefold : (m : ℕ) → m * 5 ≡ m + m * 2 * 2
+    fivefold m = omega arith
 
-abbrev IsTen : ℕ → Type 0
-IsTen n = getD tens n nan ≡ powerOfTen n
+five-few : (n : ℕ) → n ≤ 22 → 5 ^ n < 2 ^ 53
+five-few n h = lt-of-le-of-lt (pow-le-pow-right (lit< tt) h) (lit< tt)
 
-each-ten : Each IsTen 23
-unfolding ofBits
-each-ten = (((((((((((((((((((((((tt, refl), refl), refl), refl), refl), refl), refl), refl), refl), refl), refl), refl), refl), refl), refl), refl), refl), refl), refl), refl), refl), refl), refl)
-
-pub ten-at : (n : ℕ) → n ≤ 22 → IsTen n
-ten-at n h = pick IsTen 23 each-ten n (omega arith)
+-- The product of 10 ^ n and ten is 10 ^ (n + 1), with nothing rounded off.
+pub ten-more : (n : ℕ) → n < 22 → mul binary64 (powerOfTen n) (powerOfTen 1) ≡ powerOfTen (n + 1)
+unfolding mul
+ten-more n h =
+    let product : 5 ^ n * 2 ^ n * (5 * 2) ≡ 5 ^ (n + 1) * 2 ^ (n + 1) =
+    mul-mul-mul-comm (5 ^ n) (2 ^ n) 5 2 ∙ ap (λ (x : ℕ). x * (2 ^ n * 2)) (sym (pow-add 5 n 1)) ∙ ap (λ (x : ℕ). 5 ^ (n + 1) * x) (sym (pow-add 2 n 1)) in
+    ap (λ (x : ℕ). round binary64 false x 1) product ∙ unrounded (5 ^ (n + 1)) (n + 1) (five-odd (n + 1)) (five-few (n + 1) (omega arith)) (omega arith)

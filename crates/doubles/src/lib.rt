@@ -23,39 +23,17 @@ pub enum Rebuilt {
     Refused(Refusal),
 }
 
-// The powers of ten that a double holds exactly.
-const TENS: [f64; 23] = [
-    1.0,
-    10.0,
-    100.0,
-    1000.0,
-    10000.0,
-    100000.0,
-    1000000.0,
-    10000000.0,
-    100000000.0,
-    1000000000.0,
-    10000000000.0,
-    100000000000.0,
-    1000000000000.0,
-    10000000000000.0,
-    100000000000000.0,
-    1000000000000000.0,
-    10000000000000000.0,
-    100000000000000000.0,
-    1000000000000000000.0,
-    10000000000000000000.0,
-    100000000000000000000.0,
-    1000000000000000000000.0,
-    10000000000000000000000.0,
-];
-
-// 10 ^ n.
+// 10 ^ n, by n products with ten. None of them rounds: 10 ^ n is 5 ^ n x 2 ^ n, and a double keeps 2 ^ n in its exponent and 5 ^ n in its 53
+// binary digits. 5 ^ 22 has 52 digits. 5 ^ 23 has 54, so that 10 ^ 23 is no double.
 fn power_of_ten(n: u64) -> f64
     requires { ⌜ n ≤ 22 ⌝ }
     ensures { λ r. ⌜ r ≡ powerOfTen n ⌝ }
 {
-    TENS[n as usize]
+    let mut power = 1.0;
+    for _ in 0..n {
+        power *= 10.0;
+    }
+    power
 }
 
 // 2 ^ e: the double whose exponent's field is 1023 + e and whose fraction's field is 0.
