@@ -90,7 +90,7 @@ extern "C" {
 #endif
 
 /* The version of this header, and of the archive that was installed with it. CHANGELOG.md says what each of its numbers stands for. */
-#define SKEPTOLYR_VERSION "2.2.0"
+#define SKEPTOLYR_VERSION "2.2.1"
 
 /* The longest file that is read, in octets, and the most points that a field can have. */
 #define SKEPTOLYR_MOST_OCTETS 268435456
