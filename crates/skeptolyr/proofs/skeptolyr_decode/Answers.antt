@@ -1,0 +1,21 @@
+-- `skeptolyr::skeptolyr_decode` meets its contract: a refusal's place fits its number, since it lies in a file that is not too long.
+use mathlib.Core.Path.{ap, sym, subst, ◌∙◌}
+use native.Mathlib.Omega.{arith}
+use lib.ListN.{length}
+use Rattle.question_decode.specs.declared.Decoded.TheVariants as Decoded
+use Rattle.question_decode.proofs.Laws.{Small, decode_small}
+use Rattle.skeptolyr.specs.Codes.{decode_code}
+use Rattle.skeptolyr.proofs.skeptolyr_decode.Goals as goal
+
+pub code_of-requires : goal.code_of-requires
+code_of-requires c =
+    let a = c.args in
+    let near : Small (Decoded.Refused c.in-Refused.refusal) =
+    subst Small (sym c.decode.ensures.0 ∙ c.in-Refused.is) (decode_small a.file.now a.k a.start (length a.values.now) (length a.presence.now)) in
+    omega arith
+
+pub returns-in-Points : goal.returns-in-Points
+returns-in-Points c = (ap decode_code (sym c.in-Points.is ∙ c.decode.ensures.0), c.decode.ensures.1)
+
+pub returns-in-Refused : goal.returns-in-Refused
+returns-in-Refused c = (c.code_of.ensures ∙ ap decode_code (sym c.in-Refused.is ∙ c.decode.ensures.0), c.decode.ensures.1)

@@ -1,0 +1,59 @@
+-- `skeptolyr::skeptolyr_place` meets its contract: the two numbers are put, and a refusal puts none.
+use mathlib.Core.Path.{◌≡◌, sym, ap, ◌∙◌}
+use native.Mathlib.Omega.{arith}
+use lib.ListN.{length}
+use Rattle.question_numbers.proofs.Held.{placed_held}
+use Rattle.section_3_geometry.specs.declared.Grid.TheVariants as Grid
+use Rattle.question_place.specs.declared.OnDegrees.TheVariants as OnDegrees
+use Rattle.question_place.specs.Place.{on_degrees}
+use Rattle.section_3_geometry.proofs.Laws.{taken_measured}
+use Rattle.question_place.proofs.Laws.{Placeable, judged_degrees, degrees_passes, degrees_placed}
+use Rattle.skeptolyr.specs.Codes.{numbers_code, numbers_left, placed_as}
+use Rattle.skeptolyr.proofs.skeptolyr_place.Goals.{In-Grid}
+use Rattle.skeptolyr.proofs.skeptolyr_place.Goals as goal
+
+-- The question is judged, and this is the field's grid.
+said : (c : In-Grid) →
+    let a = c.args in
+    on_degrees a.file.now a.k a.n (length a.position.now) ≡ OnDegrees.Grid c.in-Grid.grid
+said c = sym c.on_degrees.ensures ∙ c.in-Grid.is
+
+is_known : (c : In-Grid) →
+    let a = c.args in
+    Placeable a.file.now a.k a.n (length a.position.now) (Grid.Degrees c.in-Grid.grid)
+is_known c = let a = c.args in judged_degrees a.file.now a.k a.n (length a.position.now) (said c)
+
+pub overflow_cast-n : goal.overflow_cast-n
+overflow_cast-n c =
+    let a = c.args in
+    omega (arith, (is_known (goal.at.overflow_cast-n c).In-Grid).below, (degrees_passes a.file.now a.k a.n (length a.position.now) (is_known (goal.at.overflow_cast-n c).In-Grid)).2)
+
+pub position_of-lies-requires : goal.position_of-lies-requires
+position_of-lies-requires c =
+    let a = c.args in
+    let passed = degrees_passes a.file.now a.k a.n (length a.position.now) (is_known (goal.at.position_of-lies-requires c).In-Grid) in
+    taken_measured _ passed.0 passed.1
+
+pub put_position-requires : goal.put_position-requires
+put_position-requires c =
+    let a = c.args in
+    let passed = degrees_passes a.file.now a.k a.n (length a.position.now) (is_known (goal.at.put_position-requires c).In-Grid) in
+    ((is_known (goal.at.put_position-requires c).In-Grid).ranges, rw c.position_of-lies.ensures (placed_held c.in-Grid.grid passed.0 a.n passed.1 (is_known (goal.at.put_position-requires c).In-Grid).below))
+
+pub code_of-requires : goal.code_of-requires
+code_of-requires c =
+    let a = c.args in
+    omega (arith, degrees_placed a.file.now a.k a.n (length a.position.now) (sym c.on_degrees.ensures ∙ c.in-Refused.is))
+
+pub returns-in-Grid : goal.returns-in-Grid
+returns-in-Grid c =
+    let a = c.args in
+    let put = rw c.position_of-lies.ensures at c.put_position.ensures in
+    let is = sym (said (goal.at.returns-in-Grid c).In-Grid) in
+    (put.1 ∙ ap (λ x. numbers_code (placed_as a.n x)) is, put.0 ∙ ap (λ x. numbers_left a.position.now (placed_as a.n x)) is)
+
+pub returns-in-Refused : goal.returns-in-Refused
+returns-in-Refused c =
+    let a = c.args in
+    let is = sym (sym c.on_degrees.ensures ∙ c.in-Refused.is) in
+    (c.code_of.ensures ∙ ap (λ x. numbers_code (placed_as a.n x)) is, ap (λ x. numbers_left a.position.now (placed_as a.n x)) is)

@@ -1,0 +1,59 @@
+-- `skeptolyr::skeptolyr_sheet` meets its contract: the two numbers are put, and a refusal puts none.
+use mathlib.Core.Path.{◌≡◌, sym, ap, ◌∙◌}
+use native.Mathlib.Omega.{arith}
+use lib.ListN.{length}
+use Rattle.section_3_geometry.specs.declared.Grid.TheVariants as Grid
+use Rattle.question_place.specs.declared.OnLambert.TheVariants as OnLambert
+use Rattle.question_numbers.proofs.Held.{sheet_held}
+use Rattle.question_place.specs.Place.{on_lambert}
+use Rattle.question_place.proofs.Laws.{Placeable, judged_lambert, lambert_passes, lambert_placed}
+use Rattle.section_3_lambert.proofs.Laws.{taken_measured}
+use Rattle.skeptolyr.specs.Codes.{numbers_code, numbers_left, sheet_as}
+use Rattle.skeptolyr.proofs.skeptolyr_sheet.Goals.{In-Grid}
+use Rattle.skeptolyr.proofs.skeptolyr_sheet.Goals as goal
+
+-- The question is judged, and this is the field's grid.
+said : (c : In-Grid) →
+    let a = c.args in
+    on_lambert a.file.now a.k a.n (length a.place.now) ≡ OnLambert.Grid c.in-Grid.grid
+said c = sym c.on_lambert.ensures ∙ c.in-Grid.is
+
+is_known : (c : In-Grid) →
+    let a = c.args in
+    Placeable a.file.now a.k a.n (length a.place.now) (Grid.Lambert c.in-Grid.grid)
+is_known c = let a = c.args in judged_lambert a.file.now a.k a.n (length a.place.now) (said c)
+
+pub overflow_cast-n : goal.overflow_cast-n
+overflow_cast-n c =
+    let a = c.args in
+    omega (arith, (is_known (goal.at.overflow_cast-n c).In-Grid).below, (lambert_passes a.file.now a.k a.n (length a.place.now) (is_known (goal.at.overflow_cast-n c).In-Grid)).2)
+
+pub sheet_of-lies-requires : goal.sheet_of-lies-requires
+sheet_of-lies-requires c =
+    let a = c.args in
+    let passed = lambert_passes a.file.now a.k a.n (length a.place.now) (is_known (goal.at.sheet_of-lies-requires c).In-Grid) in
+    taken_measured _ passed.0 passed.1
+
+pub put_sheet-requires : goal.put_sheet-requires
+put_sheet-requires c =
+    let a = c.args in
+    let passed = lambert_passes a.file.now a.k a.n (length a.place.now) (is_known (goal.at.put_sheet-requires c).In-Grid) in
+    ((is_known (goal.at.put_sheet-requires c).In-Grid).ranges, rw c.sheet_of-lies.ensures (sheet_held c.in-Grid.grid passed.0 a.n passed.1 (omega (arith, (is_known (goal.at.put_sheet-requires c).In-Grid).below, passed.2))))
+
+pub code_of-requires : goal.code_of-requires
+code_of-requires c =
+    let a = c.args in
+    omega (arith, lambert_placed a.file.now a.k a.n (length a.place.now) (sym c.on_lambert.ensures ∙ c.in-Refused.is))
+
+pub returns-in-Grid : goal.returns-in-Grid
+returns-in-Grid c =
+    let a = c.args in
+    let put = rw c.sheet_of-lies.ensures at c.put_sheet.ensures in
+    let is = sym (said (goal.at.returns-in-Grid c).In-Grid) in
+    (put.1 ∙ ap (λ x. numbers_code (sheet_as a.n x)) is, put.0 ∙ ap (λ x. numbers_left a.place.now (sheet_as a.n x)) is)
+
+pub returns-in-Refused : goal.returns-in-Refused
+returns-in-Refused c =
+    let a = c.args in
+    let is = sym (sym c.on_lambert.ensures ∙ c.in-Refused.is) in
+    (c.code_of.ensures ∙ ap (λ x. numbers_code (sheet_as a.n x)) is, ap (λ x. numbers_left a.place.now (sheet_as a.n x)) is)

@@ -1,0 +1,12 @@
+-- `text::put` meets its contract. The invariant: the run is as it was, with the first `done` octets put.
+use mathlib.Core.Path.{◌≡◌}
+use Prim.Native.Nat.{◌-◌, ◌≤◌}
+use lib.ListN.{length}
+use lib.Seq.{paste}
+use Rattle.text.proofs.put.Given as goal
+
+abbrev pub invariant-loop-done : goal.invariant-loop-done
+invariant-loop-done l = (l.done ≤ length l.octets) × (l.run ≡ paste l.initial.run l.at l.octets l.done)
+
+abbrev pub decreases-loop-done : goal.decreases-loop-done
+decreases-loop-done l = length l.octets - l.done

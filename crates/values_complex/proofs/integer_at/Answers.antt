@@ -1,0 +1,58 @@
+-- `values_complex::integer_at` meets its contract: the first value is told by itself, and a later integer where all up to it are kept.
+use mathlib.Core.Path.{◌≡◌, sym, ap, ◌∙◌}
+use Prim.Native.Nat.{suc, ◌+◌, ◌-◌, ◌≤◌}
+use native.Mathlib.Omega.{arith}
+use Rattle.values_group.specs.Group.{is_kept}
+use Rattle.values_integers.proofs.Joined.{worked_sound}
+use Rattle.values_integers.specs.Integers.{stored_at, are_in_range}
+use Rattle.values_complex.specs.Complex.{integer_in, single_of}
+use Rattle.values_complex.proofs.Joined.{first_out, second_out, range_worked, first_single, single_kept, single_out}
+use Rattle.values_complex.proofs.integer_at.Goals.{Else-differencing-gt2147483647}
+use Rattle.values_complex.proofs.integer_at.Goals as goal
+
+pub returns-then-differencing-gt2147483647 : goal.returns-then-differencing-gt2147483647
+returns-then-differencing-gt2147483647 c =
+    let a = c.args in
+    single_out a.section.now a.groups a.m (first_out a.section.now a.groups c.if-differencing-gt2147483647.true (suc a.m) (omega arith))
+
+pub returns-then-m-eq0 : goal.returns-then-m-eq0
+returns-then-m-eq0 c =
+    let a = c.args in
+    first_single a.section.now a.groups c.if-differencing-gt2147483647.false ∙ ap (single_of (integer_in a.section.now a.groups)) (sym c.if-m-eq0.true)
+
+pub returns-then-differencing-gt2147483647-2 : goal.returns-then-differencing-gt2147483647-2
+returns-then-differencing-gt2147483647-2 c =
+    let a = c.args in
+    single_out a.section.now a.groups a.m (second_out a.section.now a.groups c.if-differencing-gt2147483647-2.true (suc a.m) (omega (arith, c.if-m-eq0.false)))
+
+-- The integer is not the first.
+behind : (c : Else-differencing-gt2147483647) → 1 ≤ c.args.m
+behind c = omega (arith, c.if-m-eq0.false)
+
+pub overflow_sub-m : goal.overflow_sub-m
+overflow_sub-m c = omega (arith, behind (goal.at.overflow_sub-m c).Else-differencing-gt2147483647)
+
+pub worked_to-requires : goal.worked_to-requires
+worked_to-requires c =
+    ((c.requires.0, omega (arith, c.requires.1, behind (goal.at.worked_to-requires c).Else-differencing-gt2147483647)), (c.if-differencing-gt2147483647.false, c.if-differencing-gt2147483647-2.false))
+
+pub overflow_cast-result : goal.overflow_cast-result
+overflow_cast-result c =
+    let a = c.args in
+    let g = a.groups in
+    omega (arith, (worked_sound g.differencing (stored_at a.section.now g.layout g.bits g.grouping) (a.m - 1) (sym c.worked_to.ensures ∙ c.in-Kept.is)).last_fits)
+
+pub returns-in-Kept : goal.returns-in-Kept
+returns-in-Kept c =
+    let a = c.args in
+    let own : suc (a.m - 1) ≡ a.m = omega (arith, behind (goal.at.returns-in-Kept c).Else-differencing-gt2147483647) in
+    single_kept a.section.now a.groups (a.m - 1) (sym c.worked_to.ensures ∙ c.in-Kept.is) ∙ ap (single_of (integer_in a.section.now a.groups)) own
+
+pub returns-in-Out : goal.returns-in-Out
+returns-in-Out c =
+    let a = c.args in
+    let own : a.m - 1 + 2 ≡ suc a.m = omega (arith, behind (goal.at.returns-in-Out c).Else-differencing-gt2147483647) in
+    single_out a.section.now a.groups a.m
+    (sym (ap (are_in_range (integer_in a.section.now a.groups)) own)
+    ∙ range_worked a.section.now a.groups (a.m - 1)
+    ∙ ap is_kept (sym c.worked_to.ensures ∙ c.in-Out.is))

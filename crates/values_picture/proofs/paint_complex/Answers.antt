@@ -1,0 +1,22 @@
+-- `values_picture::paint_complex` meets its contract: the end of the run is lent on, comes back with the greys of the field's integers, and these are spread.
+use mathlib.Core.Path.{◌∙◌}
+use native.Mathlib.Omega.{arith}
+use Rattle.values_complex.specs.Complex.{size_in}
+use Rattle.values_picture.proofs.Laws.{packed_fit, lent_length, spread_ready, spread_painted}
+use Rattle.values_picture.proofs.paint_complex.Goals as goal
+
+pub overflow_sub-from : goal.overflow_sub-from
+overflow_sub-from c = packed_fit c.args.bitmap.now c.args.greys.now c.args.n c.requires.0.3
+
+pub put_complex-requires : goal.put_complex-requires
+put_complex-requires c =
+    let long = lent_length c.args.bitmap.now c.args.greys.now c.args.n c.requires.0.3 in
+    ((c.requires.0.0, c.requires.0.1, long ∙ c.requires.0.2), (c.requires.1.0, λ m l. c.requires.1.1 m (omega (arith, l, c.requires.0.2))))
+
+pub spread-requires : goal.spread-requires
+spread-requires c = spread_ready c.args.bitmap.now c.args.greys.now c.args.n c.requires.0.3 _ c.greys-1.given.1
+
+pub returns : goal.returns
+returns c =
+    spread_painted c.args.bitmap.now c.args.greys.now c.args.n c.requires.0.3 c.args.scale (size_in c.args.section.now c.args.groups) _ _
+    c.put_complex.ensures c.greys-1.given.1 c.spread.ensures
