@@ -1,4 +1,6 @@
 // The numbers of b bits in a run of octets, top bit first, and how many octets a run of them takes.
+#![tactic(auto)]
+
 ghost use Rattle.std.specs.Prelude.{◌≡◌, ◌+◌, ◌-◌, ◌*◌, ◌/◌, ◌%◌, ◌^◌, ◌≤◌, ◌<◌, length};
 ghost use Rattle.octets.specs.Numbers.{octet_at, number_at};
 ghost use Rattle.bits.specs.Bits.{bit_at, bits_at, octets_of};
@@ -7,14 +9,14 @@ ghost use Rattle.bits.specs.Fours.{fours_in, FourFound};
 use octets::BitPlace;
 
 // Two numbers that stand one behind the other.
-#[derive(Drop)]
+#[derive(Clone, Copy)]
 pub struct Pair {
     pub first: u32,
     pub second: u32,
 }
 
 // Four numbers that stand one behind the other.
-#[derive(Drop)]
+#[derive(Clone, Copy)]
 pub struct Four {
     pub first: u32,
     pub second: u32,

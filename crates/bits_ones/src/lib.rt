@@ -1,4 +1,6 @@
 // How many bits of a run of octets are set (RULES, "Section 6").
+#![tactic(auto)]
+
 ghost use Rattle.std.specs.Prelude.{◌≡◌, ◌+◌, ◌*◌, ◌^◌, ◌≤◌, ◌<◌, length};
 ghost use Rattle.std.specs.Int.Count.{ones};
 ghost use Rattle.bits_ones.specs.Ones.{ones_before};
@@ -7,7 +9,7 @@ ghost use Rattle.bits_ones.specs.Counted.{added_ones, counted};
 use octets::BitPlace;
 
 // Three words added bit by bit: each bit set in `sum` counts once, and each in `carry` twice.
-#[derive(Drop)]
+#[derive(Clone, Copy)]
 pub struct Added {
     pub sum: u64,
     pub carry: u64,
@@ -15,7 +17,7 @@ pub struct Added {
 
 // Bits counted by places: those set in `ones` count once, in `twos` twice and in `fours` four times, and `eights` have been found that count
 // eight times.
-#[derive(Drop)]
+#[derive(Clone, Copy)]
 pub struct Tally {
     pub ones: u64,
     pub twos: u64,

@@ -1,5 +1,7 @@
 // The bit reader: a section's octets and a bit place in them. It is thin: each function takes it apart and calls one on the slice and the place.
 // Reading moves it: whoever reads a number has the reader behind that number.
+#![tactic(auto)]
+
 ghost use Rattle.std.specs.Prelude.{◌≡◌, ◌+◌, ◌*◌, ◌/◌, ◌≤◌, ◌<◌, ◌^◌, length};
 ghost use Rattle.bits.specs.Bits.{bits_at};
 ghost use Rattle.bits_reader.specs.Reading.{NumberFound, PairFound, PairTaken, FourRead, FourTaken};
@@ -7,42 +9,42 @@ ghost use Rattle.bits_reader.specs.Reading.{NumberFound, PairFound, PairTaken, F
 use bits::{Four, Pair};
 use octets::BitPlace;
 
-#[derive(Drop)]
+#[derive(Clone, Copy)]
 pub struct BitReader<'a> {
     pub run: &'a [u8],
     pub at: BitPlace,
 }
 
 // A number that was read, and the reader behind it.
-#[derive(Drop)]
+#[derive(Clone, Copy)]
 pub struct Read<'a> {
     pub number: u32,
     pub reader: BitReader<'a>,
 }
 
 // Two numbers that were read, and the reader behind them.
-#[derive(Drop)]
+#[derive(Clone, Copy)]
 pub struct ReadPair<'a> {
     pub pair: Pair,
     pub reader: BitReader<'a>,
 }
 
 // Four numbers that were read, and the reader behind them.
-#[derive(Drop)]
+#[derive(Clone, Copy)]
 pub struct ReadFour<'a> {
     pub four: Four,
     pub reader: BitReader<'a>,
 }
 
 // A number that was taken, and the place behind it.
-#[derive(Drop)]
+#[derive(Clone, Copy)]
 pub struct Taken {
     pub number: u32,
     pub next: BitPlace,
 }
 
 // Two numbers that were taken, and the place behind them.
-#[derive(Drop)]
+#[derive(Clone, Copy)]
 pub struct TakenPair {
     pub first: u32,
     pub second: u32,
@@ -50,7 +52,7 @@ pub struct TakenPair {
 }
 
 // Four numbers that were taken, and the place behind them.
-#[derive(Drop)]
+#[derive(Clone, Copy)]
 pub struct TakenFour {
     pub first: u32,
     pub second: u32,

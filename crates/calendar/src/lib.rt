@@ -1,18 +1,20 @@
 // Gregorian times of the years 1900 to 2399: read from octets, moved on by minutes, hours or days, ordered, and written in 14 digits.
+#![tactic(auto)]
+
 ghost use Rattle.std.specs.Prelude.{◌≡◌, ◌+◌, ◌-◌, ◌≤◌, ◌<◌, length};
 ghost use Rattle.calendar.specs.Calendar.{is_leap, month_length, is_date, DateInRange, Gregorian, time_at, seconds_in, plus, fourteen_digits, digits_of, ordered};
 ghost use Rattle.calendar.specs.Count.{days_before_year, days_in_months, day_number, RealDate, InYear};
 
 use octets::FilePlace;
 
-#[derive(Drop)]
+#[derive(Clone, Copy)]
 pub struct Date {
     pub year: u32,
     pub month: u32,
     pub day: u32,
 }
 
-#[derive(Drop)]
+#[derive(Clone, Copy)]
 pub struct Time {
     pub date: Date,
     pub hour: u32,
@@ -21,13 +23,13 @@ pub struct Time {
 }
 
 // What seven octets hold.
-#[derive(Drop)]
+#[derive(Clone, Copy)]
 pub enum Reading {
     At(Time),
     NoTime,
 }
 
-#[derive(Drop)]
+#[derive(Clone, Copy)]
 pub enum Unit {
     Minute,
     Hour,
@@ -35,13 +37,13 @@ pub enum Unit {
 }
 
 // The time so much later, where it still lies in the years that the calendar has.
-#[derive(Drop)]
+#[derive(Clone, Copy)]
 pub enum Later {
     At(Time),
     Passes2399,
 }
 
-#[derive(Drop)]
+#[derive(Clone, Copy)]
 pub enum Order {
     Before,
     Same,

@@ -1,4 +1,6 @@
 // From R, E, D and X to a double: the packing record, the rebuild, and the question that rebuilds one double.
+#![tactic(auto)]
+
 ghost use Rattle.std.specs.Prelude.{◌≡◌, ◌≤◌};
 ghost use Rattle.std.specs.Float.{binary32};
 ghost use Rattle.std.specs.Float.Ieee.{of_bits};
@@ -10,7 +12,7 @@ use octets::{FilePlace, Signed};
 use refusals::{Refusal, Why};
 
 // What turns X into a double: R, 2 ^ E and 10 ^ |D|, each exact, and whether D is below 0.
-#[derive(Drop)]
+#[derive(Clone, Copy)]
 pub struct Packing {
     pub reference: f64,
     pub binary: f64,
@@ -18,7 +20,7 @@ pub struct Packing {
     pub below: bool,
 }
 
-#[derive(Drop)]
+#[derive(Clone, Copy)]
 pub enum Rebuilt {
     Double(f64),
     Refused(Refusal),

@@ -1,9 +1,11 @@
 // X to a grey of a picture, from 1 to 255: by the largest X that is present, and with no double on the way.
+#![tactic(auto)]
+
 ghost use Rattle.std.specs.Prelude.{◌≡◌, ◌≤◌};
 ghost use Rattle.greys.specs.Greys.{grey_of, scale_of, ScaledTo};
 
 // How greys are worked out: the largest X, or 1 where that is 0, and its share of 254 x 2^56, rounded up.
-#[derive(Drop)]
+#[derive(Clone, Copy)]
 pub struct Scale {
     pub largest: u64,
     pub share: u64,

@@ -1,4 +1,6 @@
 // Prints the listing of the file on standard input (RULES, "Listing"). What is printed of what was read is decided, and proved, in listing_file.
+#![tactic(auto)]
+
 use libc::STDIN_FILENO;
 
 fn main() {

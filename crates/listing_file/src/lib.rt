@@ -1,5 +1,7 @@
 // The listing of an input as text in a lent run of octets (RULES, "Listing"): the count of its fields and one line for each, or the line
 // of its refusal.
+#![tactic(auto)]
+
 ghost use Rattle.std.specs.Prelude.{◌+◌, ◌*◌, ◌≤◌, length};
 ghost use Rattle.laws_rows.specs.Rows.{Puts};
 ghost use Rattle.listing_file.specs.Listing.{line_of, lines_of, refused_line, listing_of, Prints};
@@ -10,7 +12,7 @@ use refusals::{Refusal, Why};
 use tiling::Checked;
 
 // What a program is to write: so many octets of its text, to the file descriptor that has this number.
-#[derive(Drop)]
+#[derive(Clone, Copy)]
 pub struct Printout {
     pub descriptor: i32,
     pub length: usize,

@@ -1,4 +1,6 @@
 // What a line of the listing says: a refusal, or what a field is (RULES, "Listing").
+#![tactic(auto)]
+
 ghost use Rattle.std.specs.Prelude.{◌≡◌, ◌+◌, ◌≤◌, length};
 ghost use Rattle.laws_rows.specs.Rows.{Puts};
 ghost use Rattle.listing_lines.specs.Lines.{refusal_text, subject_text, size_text, listed_time, field_text};

@@ -1,23 +1,25 @@
 // Places in a file, in a section and in a run of bits, and the numbers that octets hold.
 // A place of one kind becomes a place of another only by a function named here.
+#![tactic(auto)]
+
 ghost use Rattle.std.specs.Prelude.{◌≡◌, ◌+◌, ◌-◌, ◌*◌, ◌^◌, ◌<◌, ◌≤◌, length};
 ghost use Rattle.octets.specs.Places.{place_of, first_bit, octet_holding};
 ghost use Rattle.octets.specs.Numbers.{number_at, signed_of};
 
 // A place in the file, from 0.
-#[derive(Drop)]
+#[derive(Clone, Copy)]
 pub struct FilePlace(pub usize);
 
 // The number of an octet in its section, from 1.
-#[derive(Drop)]
+#[derive(Clone, Copy)]
 pub struct OctetNumber(pub usize);
 
 // The place of a bit in a run of octets, from 0: the top bit of the run's first octet.
-#[derive(Drop)]
+#[derive(Clone, Copy)]
 pub struct BitPlace(pub usize);
 
 // A number with a sign, as the standard's octets hold it. Zero has no sign.
-#[derive(Drop)]
+#[derive(Clone, Copy)]
 pub struct Signed {
     pub negative: bool,
     pub size: u64,

@@ -1,6 +1,8 @@
 // The one place where the sections of a field are judged. Refusals 1 to 14 are tried here, in the order of refusals, and get their numbers and places here; and so
 // are those behind them that describe and decode can meet. Whoever answers a question asks here first. Nothing has a precondition: what cannot be answered is
 // refused.
+#![tactic(auto)]
+
 ghost use Rattle.std.specs.Prelude.{◌≡◌, ◌≤◌};
 ghost use Rattle.calendar.specs.Calendar.{Gregorian};
 ghost use Rattle.tiling_sections.specs.Laid.{Laid};
@@ -23,7 +25,7 @@ use tiling_sections::{Located, Starts};
 
 // All that is said of a field: the discipline from section 0, what sections 1, 3, 4 and 5 in force for it say, which of its points are present, what
 // section 7 holds, and where these sections start.
-#[derive(Drop)]
+#[derive(Clone, Copy)]
 pub struct Description {
     pub discipline: u8,
     pub identification: Identification,
@@ -35,7 +37,7 @@ pub struct Description {
     pub starts: Starts,
 }
 
-#[derive(Drop)]
+#[derive(Clone, Copy)]
 pub enum Described {
     As(Description),
     Refused(Refusal),

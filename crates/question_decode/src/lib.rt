@@ -1,5 +1,7 @@
 // The question decode: the values of a field and which of its points are present, written into runs lent for them. It has no precondition:
 // what cannot be answered is refused, and then nothing is written.
+#![tactic(auto)]
+
 ghost use Rattle.std.specs.Prelude.{◌≡◌, true, length};
 ghost use Rattle.laws_rows.specs.Rows.{laid};
 ghost use Rattle.doubles.specs.Doubles.{Scaled};
@@ -14,7 +16,7 @@ use section_5::Representation;
 use section_7::Data;
 
 // The point count of the field that was decoded.
-#[derive(Drop)]
+#[derive(Clone, Copy)]
 pub enum Decoded {
     Points(u32),
     Refused(Refusal),

@@ -1,4 +1,6 @@
 // A description and a place as rows of numbers with a sign, put into a run that is lent for them. It is how C is told what a field is.
+#![tactic(auto)]
+
 ghost use Rattle.std.specs.Prelude.{◌≡◌, ◌+◌, ◌≤◌, ◌<◌, pos, length};
 ghost use Rattle.octets.specs.Numbers.{whole};
 ghost use Rattle.laws_rows.specs.Rows.{Puts};

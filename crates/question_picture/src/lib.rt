@@ -1,5 +1,7 @@
 // The question picture: a field as a raw PGM picture, written into a run lent for it. It has no precondition: what cannot be answered is refused, and then nothing is
 // written. No double is made.
+#![tactic(auto)]
+
 ghost use Rattle.std.specs.Prelude.{◌≡◌, ◌≤◌, length};
 ghost use Rattle.laws_rows.specs.Rows.{Puts};
 ghost use Rattle.section_3_geometry.specs.Geometry.{points_of};
@@ -16,7 +18,7 @@ use section_7::Data;
 use values_largest::Largest;
 
 // The picture's length.
-#[derive(Drop)]
+#[derive(Clone, Copy)]
 pub enum Pictured {
     Octets(u32),
     Refused(Refusal),

@@ -1,5 +1,7 @@
 // The questions where one of a field's points lies: in degrees, and on the sheet of a Lambert map. Behind the refusals of describe come 20, 17 and 15, which are tried and
 // get their numbers and places here. Nothing has a precondition: what cannot be answered is refused.
+#![tactic(auto)]
+
 ghost use Rattle.std.specs.Prelude.{◌≡◌, ◌≤◌};
 ghost use Rattle.section_3_geometry.specs.Geometry.{points_of};
 ghost use Rattle.question_place.specs.Place.{point_asked, degrees_asked, lambert_asked, on_degrees, on_lambert, place, sheet};
@@ -11,34 +13,34 @@ use section_3_geometry::{DegreeGrid, Grid, LambertGrid, Position};
 use section_3_lambert::SheetPlace;
 
 // Is a point that is asked for refused?
-#[derive(Drop)]
+#[derive(Clone, Copy)]
 pub enum Asked {
     Taken,
     Refused(Refusal),
 }
 
 // A field's grid in degrees, where one of its points is asked for.
-#[derive(Drop)]
+#[derive(Clone, Copy)]
 pub enum OnDegrees {
     Grid(DegreeGrid),
     Refused(Refusal),
 }
 
 // A field's Lambert grid, likewise.
-#[derive(Drop)]
+#[derive(Clone, Copy)]
 pub enum OnLambert {
     Grid(LambertGrid),
     Refused(Refusal),
 }
 
 // Where a point lies, in degrees and on the sheet.
-#[derive(Drop)]
+#[derive(Clone, Copy)]
 pub enum Placed {
     At(Position),
     Refused(Refusal),
 }
 
-#[derive(Drop)]
+#[derive(Clone, Copy)]
 pub enum OnSheet {
     At(SheetPlace),
     Refused(Refusal),

@@ -1,5 +1,7 @@
 // The question point: the value of one point of a field, or that it is missing. No other value is made for it. Behind the refusals of describe come 17, 15 and 16: an
 // integer behind the point's own is not looked at. Nothing has a precondition: what cannot be answered is refused.
+#![tactic(auto)]
+
 ghost use Rattle.std.specs.Prelude.{◌≡◌, ◌<◌};
 ghost use Rattle.section_3_geometry.specs.Geometry.{points_of};
 ghost use Rattle.values_complex.specs.Complex.{single_of};
@@ -15,7 +17,7 @@ use section_7::Data;
 use values_complex::Single;
 
 // The value of a point, or that it is missing.
-#[derive(Drop)]
+#[derive(Clone, Copy)]
 pub enum Pointed {
     Value(f64),
     Missing,

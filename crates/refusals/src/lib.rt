@@ -1,11 +1,13 @@
 // The numbered refusals: why a question is not answered, and where in the file.
+#![tactic(auto)]
+
 ghost use Rattle.std.specs.Prelude.{◌≡◌, ◌<◌, ◌^◌};
 ghost use Rattle.refusals.specs.Refusals.{number_of, code_of};
 
 use octets::FilePlace;
 
 // Why a question is refused, in the order of the table in RULES, "Refusals by number".
-#[derive(Drop)]
+#[derive(Clone, Copy)]
 pub enum Why {
     // The file is over 268,435,456 octets.
     TooLong,
@@ -50,7 +52,7 @@ pub enum Why {
 }
 
 // A refusal: why, and where in the file.
-#[derive(Drop)]
+#[derive(Clone, Copy)]
 pub struct Refusal {
     pub why: Why,
     pub place: FilePlace,

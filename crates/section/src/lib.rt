@@ -1,4 +1,6 @@
 // One section: its length, and what its octets hold by the numbers that the standard gives them.
+#![tactic(auto)]
+
 ghost use Rattle.std.specs.Prelude.{◌≡◌, ◌+◌, ◌-◌, ◌≤◌, ◌<◌, ◌^◌, length};
 ghost use Rattle.section.specs.Sections.{octet, held, held_signed, length_at, octets_in, Lies};
 

@@ -1,4 +1,6 @@
 // Section 1: the status of a message, and the time that its forecasts start from (RULES, "Section 1").
+#![tactic(auto)]
+
 ghost use Rattle.std.specs.Prelude.{◌≡◌};
 ghost use Rattle.section.specs.Sections.{Lies};
 ghost use Rattle.section_1.specs.Identification.{is_identification, identification_at};
@@ -7,13 +9,13 @@ use calendar::{Reading, Time};
 use octets::{FilePlace, OctetNumber};
 
 // What section 1 says: the status, 0 where the message is operational and 1 where it is a trial, and the reference time.
-#[derive(Drop)]
+#[derive(Clone, Copy)]
 pub struct Identification {
     pub status: u8,
     pub reference: Time,
 }
 
-#[derive(Drop)]
+#[derive(Clone, Copy)]
 pub enum Identified {
     As(Identification),
     NotTaken,

@@ -1,4 +1,6 @@
 // Section 3: the grid of template 3.0 or 3.30, as the section's octets hold it (RULES, "Section 3").
+#![tactic(auto)]
+
 ghost use Rattle.std.specs.Prelude.{◌≡◌, ◌≤◌};
 ghost use Rattle.section.specs.Sections.{Lies};
 ghost use Rattle.section_3.specs.Section3.{LiesWith, is_of, is_scanned, is_projected, radius_at, frame_at, degree_numbers_at, degrees_at, lambert_numbers_at, lambert_at, grid_at};
@@ -6,13 +8,13 @@ ghost use Rattle.section_3.specs.Section3.{LiesWith, is_of, is_scanned, is_proje
 use octets::{FilePlace, OctetNumber};
 use section_3_geometry::{DegreeGrid, Frame, Grid, LambertGrid, Position};
 
-#[derive(Drop)]
+#[derive(Clone, Copy)]
 pub enum Gridded {
     On(Grid),
     NotTaken,
 }
 
-#[derive(Drop)]
+#[derive(Clone, Copy)]
 pub enum Radius {
     Metres(u32),
     Unknown,

@@ -1,18 +1,20 @@
 // A field's grid, which is of one of two kinds, and the numbers that make a grid in degrees (RULES, "Section 3").
+#![tactic(auto)]
+
 ghost use Rattle.std.specs.Prelude.{◌≡◌, true, ◌≤◌, ◌<◌, ◌^◌};
 ghost use Rattle.section_3_geometry.specs.Geometry.{frame_of, points_of, is_counted, south_of, is_position, is_cornered, span_east, span_south, is_spanned, is_stepped, is_taken};
 
 use octets::Signed;
 
 // A place on the earth, in millionths of a degree: a latitude with its sign, and a longitude eastward from 0 to 359,999,999.
-#[derive(Drop)]
+#[derive(Clone, Copy)]
 pub struct Position {
     pub latitude: Signed,
     pub longitude: u32,
 }
 
 // What both kinds of grid have: the earth's code and its radius in metres, and Ni points in each of Nj rows.
-#[derive(Drop)]
+#[derive(Clone, Copy)]
 pub struct Frame {
     pub earth: u8,
     pub radius: u32,
@@ -21,7 +23,7 @@ pub struct Frame {
 }
 
 // A grid in degrees, of template 3.0: its first and its last point, and the steps Di and Dj in millionths of a degree.
-#[derive(Drop)]
+#[derive(Clone, Copy)]
 pub struct DegreeGrid {
     pub frame: Frame,
     pub first: Position,
@@ -32,7 +34,7 @@ pub struct DegreeGrid {
 
 // A Lambert grid, of template 3.30: its first point; the latitude at which lengths are as stated, and the meridian that is upright on the sheet; the lengths Dx and
 // Dy in thousandths of a metre; and the two latitudes at which the cone cuts the earth.
-#[derive(Drop)]
+#[derive(Clone, Copy)]
 pub struct LambertGrid {
     pub frame: Frame,
     pub first: Position,
@@ -45,7 +47,7 @@ pub struct LambertGrid {
 }
 
 // A field's grid.
-#[derive(Drop)]
+#[derive(Clone, Copy)]
 pub enum Grid {
     Degrees(DegreeGrid),
     Lambert(LambertGrid),

@@ -1,4 +1,6 @@
 // The numbers of a Lambert grid: which of them make one, and where its points lie on the sheet (RULES, "Section 3").
+#![tactic(auto)]
+
 ghost use Rattle.std.specs.Prelude.{◌≡◌};
 ghost use Rattle.section_3_lambert.specs.Lambert.{is_spaced, is_coned, is_lambert_grid};
 ghost use Rattle.section_3_lambert.specs.Sheet.{SheetMeasured, sheet_of};
@@ -6,7 +8,7 @@ ghost use Rattle.section_3_lambert.specs.Sheet.{SheetMeasured, sheet_of};
 use section_3_geometry::LambertGrid;
 
 // A place on the sheet: so far to the right of the first point, and so far below it, in thousandths of a metre.
-#[derive(Drop)]
+#[derive(Clone, Copy)]
 pub struct SheetPlace {
     pub right: u64,
     pub down: u64,

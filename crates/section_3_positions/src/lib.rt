@@ -1,4 +1,6 @@
 // Where the points of a grid lie (RULES, "Section 3").
+#![tactic(auto)]
+
 ghost use Rattle.std.specs.Prelude.{◌≡◌, ◌≤◌, ◌<◌, ◌^◌};
 ghost use Rattle.section_3_geometry.specs.Geometry.{Measured};
 ghost use Rattle.section_3_positions.specs.Positions.{Away, latitude_at};

@@ -1,4 +1,6 @@
 // Section 4: what a field is about, on which level, and of which time (RULES, "Section 4").
+#![tactic(auto)]
+
 ghost use Rattle.std.specs.Prelude.{◌≡◌, true, ◌≤◌};
 ghost use Rattle.section.specs.Sections.{Lies, length_at};
 ghost use Rattle.calendar.specs.Calendar.{Gregorian, ordered};
@@ -8,28 +10,28 @@ use calendar::{Later, Order, Reading, Time, Unit};
 use octets::{FilePlace, OctetNumber, Signed};
 
 // The level of the first surface: the scaled level over 10 ^ factor, or none, as for the ground and mean sea level.
-#[derive(Drop)]
+#[derive(Clone, Copy)]
 pub enum Level {
     Absent,
     At { factor: Signed, scaled: u32 },
 }
 
 // What a field over an interval is.
-#[derive(Drop)]
+#[derive(Clone, Copy)]
 pub enum Kind {
     Mean,
     Sum,
 }
 
 // A field is of an instant, the valid time, or of an interval that starts then.
-#[derive(Drop)]
+#[derive(Clone, Copy)]
 pub enum Product {
     Instant,
     Interval { end: Time, kind: Kind },
 }
 
 // What section 4 says.
-#[derive(Drop)]
+#[derive(Clone, Copy)]
 pub struct ProductDefinition {
     pub category: u8,
     pub parameter: u8,
@@ -40,26 +42,26 @@ pub struct ProductDefinition {
     pub valid: Time,
 }
 
-#[derive(Drop)]
+#[derive(Clone, Copy)]
 pub enum Defined {
     As(ProductDefinition),
     NotTaken,
 }
 
-#[derive(Drop)]
+#[derive(Clone, Copy)]
 pub enum LevelReading {
     Is(Level),
     Bad,
 }
 
-#[derive(Drop)]
+#[derive(Clone, Copy)]
 pub enum ProductReading {
     Is(Product),
     Bad,
 }
 
 // A time that is reached, or none: the unit is not known, or the year 2399 is passed.
-#[derive(Drop)]
+#[derive(Clone, Copy)]
 pub enum Moment {
     At(Time),
     Never,

@@ -1,4 +1,6 @@
 // Section 5: how the values of a field are packed (RULES, "Section 5").
+#![tactic(auto)]
+
 ghost use Rattle.std.specs.Prelude.{◌≡◌, ◌≤◌};
 ghost use Rattle.section.specs.Sections.{Lies, length_at};
 ghost use Rattle.section_5.specs.Representation.{is_scaled, complex_at, data_template_at, representation_at};
@@ -7,14 +9,14 @@ use octets::{FilePlace, OctetNumber, Signed};
 use section_5_groups::Grouping;
 
 // The data template: 5.0, simple packing, or 5.3, complex packing with spatial differencing.
-#[derive(Drop)]
+#[derive(Clone, Copy)]
 pub enum Template {
     Simple,
     Complex(Grouping),
 }
 
 // What section 5 says: N, R by its 32 bits, E, D, octet 20, and the data template.
-#[derive(Drop)]
+#[derive(Clone, Copy)]
 pub struct Representation {
     pub n: u32,
     pub r: u32,
@@ -24,13 +26,13 @@ pub struct Representation {
     pub template: Template,
 }
 
-#[derive(Drop)]
+#[derive(Clone, Copy)]
 pub enum Represented {
     By(Representation),
     NotTaken,
 }
 
-#[derive(Drop)]
+#[derive(Clone, Copy)]
 pub enum TemplateReading {
     Is(Template),
     Bad,

@@ -1,4 +1,6 @@
 // Section 5: what template 5.3 says of its groups (RULES, "Section 5").
+#![tactic(auto)]
+
 ghost use Rattle.std.specs.Prelude.{◌≡◌};
 ghost use Rattle.section.specs.Sections.{Lies, length_at};
 ghost use Rattle.section_5_groups.specs.Groups.{grouping_at, is_differenced, is_grouping};
@@ -6,14 +8,14 @@ ghost use Rattle.section_5_groups.specs.Groups.{grouping_at, is_differenced, is_
 use octets::{FilePlace, OctetNumber};
 
 // How the widths of groups are stored: each is the reference and a number of so many bits.
-#[derive(Drop)]
+#[derive(Clone, Copy)]
 pub struct Widths {
     pub reference: u32,
     pub bits: u32,
 }
 
 // How their lengths are stored: each is the reference and, times the increment, a number of so many bits. That of the last group is told here.
-#[derive(Drop)]
+#[derive(Clone, Copy)]
 pub struct Lengths {
     pub reference: u32,
     pub increment: u32,
@@ -22,7 +24,7 @@ pub struct Lengths {
 }
 
 // What template 5.3 says of its groups. The first value, the second and Zmin take `extra` octets each.
-#[derive(Drop)]
+#[derive(Clone, Copy)]
 pub struct Grouping {
     pub groups: u32,
     pub widths: Widths,

@@ -1,4 +1,6 @@
 // Section 6: which points of a field are present (RULES, "Section 6").
+#![tactic(auto)]
+
 ghost use Rattle.std.specs.Prelude.{◌≡◌};
 ghost use Rattle.section.specs.Sections.{Lies, length_at};
 ghost use Rattle.tiling_sections.specs.Laid.{Stored};
@@ -9,14 +11,14 @@ use tiling_sections::Bitmap;
 
 // Which points are present: all, those of the section's own bitmap, or those of an earlier section's. A bitmap is told by the place of the
 // section that has it.
-#[derive(Drop)]
+#[derive(Clone, Copy)]
 pub enum Presence {
     All,
     Own(FilePlace),
     Earlier(FilePlace),
 }
 
-#[derive(Drop)]
+#[derive(Clone, Copy)]
 pub enum Marked {
     As(Presence),
     NotTaken,

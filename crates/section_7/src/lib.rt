@@ -1,4 +1,6 @@
 // Section 7: what it holds. These are the packed numbers of a field and nothing else, and their groups add up (RULES, "Section 7").
+#![tactic(auto)]
+
 ghost use Rattle.std.specs.Prelude.{◌≡◌};
 ghost use Rattle.section.specs.Sections.{Lies};
 ghost use Rattle.section_7_layout.specs.Runs.{StartsNear, Limited};
@@ -11,7 +13,7 @@ use section_7_layout::{Differencing, Layout};
 
 // What is known of all groups: where their runs lie, how their widths and lengths are told, the bits of a reference, and what stands before
 // them.
-#[derive(Drop)]
+#[derive(Clone, Copy)]
 pub struct Groups {
     pub layout: Layout,
     pub grouping: Grouping,
@@ -20,20 +22,20 @@ pub struct Groups {
 }
 
 // What section 7 holds: numbers of so many bits one after the other, or groups of them with their plan.
-#[derive(Drop)]
+#[derive(Clone, Copy)]
 pub enum Data {
     Simple,
     Complex(Groups),
 }
 
-#[derive(Drop)]
+#[derive(Clone, Copy)]
 pub enum Packed {
     As(Data),
     NotTaken,
 }
 
 // How many bits the packed values of all groups take, where the groups are sound and have as many values as they must.
-#[derive(Drop)]
+#[derive(Clone, Copy)]
 pub enum Plan {
     Bits(u64),
     Bad,

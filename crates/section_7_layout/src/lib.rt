@@ -1,4 +1,6 @@
 // Section 7: where the runs of its groups lie, and what stands before them (RULES, "Section 7").
+#![tactic(auto)]
+
 ghost use Rattle.std.specs.Prelude.{◌≡◌, ◌+◌, ◌*◌, ◌<◌, ◌≤◌, ◌^◌, length};
 ghost use Rattle.octets.specs.Places.{first_bit};
 ghost use Rattle.bits.specs.Bits.{bits_at};
@@ -8,7 +10,7 @@ use octets::{BitPlace, FilePlace, OctetNumber, Signed};
 use section_5_groups::Grouping;
 
 // The octets of the section on which its runs start: the references of the groups, their widths, their lengths, and the packed values.
-#[derive(Drop)]
+#[derive(Clone, Copy)]
 pub struct Layout {
     pub references: OctetNumber,
     pub widths: OctetNumber,
@@ -17,7 +19,7 @@ pub struct Layout {
 }
 
 // What stands before the groups: the first value, the second, and Zmin, the least of the second differences.
-#[derive(Drop)]
+#[derive(Clone, Copy)]
 pub struct Differencing {
     pub first: u32,
     pub second: u32,

@@ -1,4 +1,6 @@
 // What C calls: numbers and lent slices go in, and one number of 64 bits comes out.
+#![tactic(auto)]
+
 ghost use Rattle.std.specs.Prelude.{◌≡◌, length};
 ghost use Rattle.tiling.specs.Tiling.{check};
 ghost use Rattle.question_decode.specs.Decoding.{answer, values_left, presence_left};

@@ -1,5 +1,7 @@
 // Asks the leaf layers the questions that stand on standard input, a record of 32 octets each, and answers each in a line. Tests compare the
 // lines with computations of their own.
+#![tactic(auto)]
+
 ghost use Rattle.std.specs.Prelude.{◌≡◌, length};
 
 use calendar::{Later, Order, Reading, Unit};

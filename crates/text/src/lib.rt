@@ -1,4 +1,6 @@
 // Text put into a lent run of octets, piece by piece: each function answers the place behind its piece.
+#![tactic(auto)]
+
 ghost use Rattle.std.specs.Prelude.{◌≡◌, ◌+◌, ◌≤◌, length, drop};
 ghost use Rattle.laws_rows.specs.Rows.{Puts};
 ghost use Rattle.text.specs.Text.{decimal, last_digit};

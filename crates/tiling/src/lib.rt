@@ -1,4 +1,6 @@
 // The messages of a file: what steps a to f of RULES, "Tiling a file", say of one, and the tiling of the whole file.
+#![tactic(auto)]
+
 ghost use Rattle.std.specs.Prelude.{◌≡◌, cond, ◌-◌, ◌≤◌, ltb, length};
 ghost use Rattle.tiling_sections.specs.Walk.{told};
 ghost use Rattle.tiling.specs.Tiling.{header_at, message, tiles, found_in, check, find};
@@ -9,14 +11,14 @@ use refusals::{Refusal, Why};
 use tiling_sections::{Located, Walked};
 
 // What steps a to e say of the message at a place: where its sections end, or the fault, which stands at that very place.
-#[derive(Drop)]
+#[derive(Clone, Copy)]
 pub enum Header {
     Sections(FilePlace),
     Bad(Why),
 }
 
 // What the whole file holds: the counts of messages and fields, and where the field lies that is looked for; or the first fault.
-#[derive(Drop)]
+#[derive(Clone, Copy)]
 pub enum Found {
     Tiled {
         messages: usize,
@@ -26,7 +28,7 @@ pub enum Found {
     Refused(Refusal),
 }
 
-#[derive(Drop)]
+#[derive(Clone, Copy)]
 pub enum Checked {
     Counts { messages: usize, fields: usize },
     Refused(Refusal),

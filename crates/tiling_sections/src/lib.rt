@@ -1,4 +1,6 @@
 // The sections of one message: what stands at a place, and the walk over all of them in search of a field (RULES, "Tiling a file", step f).
+#![tactic(auto)]
+
 ghost use Rattle.std.specs.Prelude.{◌≡◌, ◌+◌, ◌≤◌, length};
 ghost use Rattle.tiling_sections.specs.Walk.{follows, section_at, bitmap_behind, starts_after, nowhere, sections, told};
 
@@ -6,14 +8,14 @@ use octets::{FilePlace, OctetNumber};
 use refusals::{Refusal, Why};
 
 // The section 6 that indicator 254 refers to, where there is one.
-#[derive(Drop)]
+#[derive(Clone, Copy)]
 pub enum Bitmap {
     Absent,
     At(FilePlace),
 }
 
 // Where the sections of a field start: section 0, with which its message starts, sections 1 and 3 in force, and the field's own 4 to 7.
-#[derive(Drop)]
+#[derive(Clone, Copy)]
 pub struct Starts {
     pub zero: FilePlace,
     pub one: FilePlace,
@@ -25,14 +27,14 @@ pub struct Starts {
 }
 
 // Where a field lies: its starts, and the bitmap in force.
-#[derive(Drop)]
+#[derive(Clone, Copy)]
 pub struct Located {
     pub starts: Starts,
     pub bitmap: Bitmap,
 }
 
 // What stands at a place between the sections of a message.
-#[derive(Drop)]
+#[derive(Clone, Copy)]
 pub enum Step {
     // A section with this number, after which the next starts at `next`.
     Next { number: u8, next: FilePlace },
@@ -44,7 +46,7 @@ pub enum Step {
 
 // What a walk over all sections of a message finds: how many fields, where the next message starts, and where the field lies that is looked
 // for; or the first fault.
-#[derive(Drop)]
+#[derive(Clone, Copy)]
 pub enum Walked {
     Fields {
         count: usize,

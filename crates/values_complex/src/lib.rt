@@ -1,5 +1,7 @@
 // Complex packing with second differences (5.3): the groups of a field one after the other, judged in a first pass that writes nothing, and written in a second one;
 // and one integer of a field, which the first pass alone finds.
+#![tactic(auto)]
+
 ghost use Rattle.std.specs.Prelude.{◌≡◌, ◌+◌, ◌≤◌, ◌<◌, length};
 ghost use Rattle.values_points.specs.Written.{marks_in, lent, left, Room, PointsLeft, Filled};
 ghost use Rattle.values_group.specs.Group.{Limits, GroupKept, GroupGoes};
@@ -13,21 +15,21 @@ use section_7::Groups;
 use values_group::{Group, Latest, Worked};
 
 // Where a group starts: how many values stand before it, and the place of its first bit.
-#[derive(Drop)]
+#[derive(Clone, Copy)]
 pub struct Start {
     pub values: u64,
     pub bit: BitPlace,
 }
 
 // A group, and where the next one starts.
-#[derive(Drop)]
+#[derive(Clone, Copy)]
 pub struct Met {
     pub group: Group,
     pub next: Start,
 }
 
 // How far the writing has come: the last integer, the one before it, and the next point.
-#[derive(Drop)]
+#[derive(Clone, Copy)]
 pub struct Reached {
     pub x: u64,
     pub before: u64,
@@ -35,7 +37,7 @@ pub struct Reached {
 }
 
 // One integer of a field, or that it or one before it is out of its range.
-#[derive(Drop)]
+#[derive(Clone, Copy)]
 pub enum Single {
     Is(u32),
     Out,

@@ -1,4 +1,6 @@
 // The greys of a field's integers, in the order in which these are packed: a lent run has one for each. All integers are judged before.
+#![tactic(auto)]
+
 ghost use Rattle.std.specs.Prelude.{◌≡◌, ◌-◌, ◌*◌, ◌≤◌, length};
 ghost use Rattle.laws_rows.specs.Rows.{row, filled};
 ghost use Rattle.bits.specs.Fours.{Foured};

@@ -1,4 +1,6 @@
 // One group of complex packing (5.3): its integers X, judged in a first pass that writes nothing, and put into a lent block in a second one.
+#![tactic(auto)]
+
 ghost use Rattle.std.specs.Prelude.{◌≡◌, ◌+◌, ◌-◌, ◌*◌, ◌%◌, ◌≤◌, length};
 ghost use Rattle.laws_rows.specs.Rows.{row, filled};
 ghost use Rattle.bits.specs.Fours.{Foured};
@@ -9,7 +11,7 @@ use octets::BitPlace;
 
 // A group as the recurrence takes it: the place of its first packed number, the width of each, its reference with what Zmin adds, what Zmin
 // takes away, and how many of its numbers are used.
-#[derive(Drop)]
+#[derive(Clone, Copy)]
 pub struct Group {
     pub from: BitPlace,
     pub width: u32,
@@ -19,14 +21,14 @@ pub struct Group {
 }
 
 // The last integer and the one before it, or that one was out of its range.
-#[derive(Drop)]
+#[derive(Clone, Copy)]
 pub enum Worked {
     Kept { x: u64, before: u64 },
     Out,
 }
 
 // The last integer and the one before it.
-#[derive(Drop)]
+#[derive(Clone, Copy)]
 pub struct Latest {
     pub x: u64,
     pub before: u64,

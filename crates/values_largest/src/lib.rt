@@ -1,4 +1,6 @@
 // The largest integer X of a field, found before any grey is made. In complex packing it is found as the integers are judged: one that is out of its range shows.
+#![tactic(auto)]
+
 ghost use Rattle.std.specs.Prelude.{◌≡◌, ◌-◌, ◌*◌, ◌≤◌, length};
 ghost use Rattle.bits.specs.Fours.{Foured};
 ghost use Rattle.values_integers.specs.Integers.{simple_integer};
@@ -13,14 +15,14 @@ use values_complex::Start;
 use values_group::Group;
 
 // The largest integer of a field, or that one is out of its range.
-#[derive(Drop)]
+#[derive(Clone, Copy)]
 pub enum Largest {
     Is(u32),
     Out,
 }
 
 // The last integer, the one before it and the largest so far, or that one was out of its range.
-#[derive(Drop)]
+#[derive(Clone, Copy)]
 pub enum Seen {
     Kept { x: u64, before: u64, largest: u64 },
     Out,

@@ -1,5 +1,7 @@
 // The greys of a field's points in the run lent for them. Those of the points that are present are put at its end, in the order in which their integers are
 // packed, and are then moved to their points: the grey of a point lies behind the point's place, or at it, so that none is overwritten before it is moved.
+#![tactic(auto)]
+
 ghost use Rattle.std.specs.Prelude.{◌≡◌, ◌+◌, ◌≤◌, length};
 ghost use Rattle.laws_rows.specs.Rows.{row};
 ghost use Rattle.greys.specs.Greys.{ScaledTo, Below};

@@ -1,4 +1,6 @@
 // The points of a field in the runs lent for them: each gets its double, and 1 where it is present or 0 where it is missing.
+#![tactic(auto)]
+
 ghost use Rattle.std.specs.Prelude.{◌≡◌, ◌+◌, ◌≤◌, ◌<◌, length, eqb};
 ghost use Rattle.values_points.specs.Written.{every_point, marks_in, lent, left, Covers, Room, PointsLeft, Cleared, Written, block_length, integers_in, are_present};
 

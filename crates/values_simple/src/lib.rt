@@ -1,4 +1,6 @@
 // Simple packing (5.0): the integers X of a field, put into a lent block, and a field's points, written into runs lent for them.
+#![tactic(auto)]
+
 ghost use Rattle.std.specs.Prelude.{◌≡◌, ◌+◌, ◌-◌, ◌*◌, ◌≤◌, length};
 ghost use Rattle.laws_rows.specs.Rows.{row, filled};
 ghost use Rattle.bits.specs.Fours.{Foured};
