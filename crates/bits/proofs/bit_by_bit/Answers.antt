@@ -2,6 +2,7 @@
 use mathlib.Core.Path.{◌≡◌, sym, ap, ap₂, ◌∙◌}
 use Prim.Native.Nat.{ℕ, ◌+◌, ◌*◌, ◌^◌, ◌<◌}
 use native.Mathlib.Omega.{arith}
+use borrow.Author.Rules.{rules}
 use Rattle.bits.specs.Bits.{bit_at, bits_at}
 use Rattle.bits.proofs.Laws.{bits_more, bits_more_lt}
 use Rattle.bits.proofs.bit_by_bit.Goals.{In-loop-taken}
@@ -12,6 +13,10 @@ more : (c : In-loop-taken) → let a = c.args in c.loop-taken.number * 2 + bit_a
 more c =
     let a = c.args in
     rw c.loop-taken.invariant.1 (bits_more_lt a.run.now a.at.0 c.loop-taken.taken 32 (omega arith))
+
+pub loop-taken-init : goal.loop-taken-init
+unfolding bits_at
+loop-taken-init c = search rules
 
 pub overflow_mul-number : goal.overflow_mul-number
 overflow_mul-number c = omega (arith, more (goal.at.overflow_mul-number c).In-loop-taken)

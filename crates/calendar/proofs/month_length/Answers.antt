@@ -19,9 +19,9 @@ returns-in-4 c = ⊎_elim (λ e. rw e) (⊎_elim (λ e. rw e) (⊎_elim (λ e. r
 pub returns-in_default : goal.returns-in_default
 unfolding month_length
 returns-in_default c =
-    let short = c.in_default.rest.1 in
+    let short = c.in_default.in_default-own.rest.1 in
     simp (
-      ne_eqb _ 2 c.in_default.rest.0.1,
+      ne_eqb _ 2 c.in_default.in_default-own.rest.0.1,
       ne_eqb _ 4 (λ e. short (inl e)),
       ne_eqb _ 6 (λ e. short (inr (inl e))),
       ne_eqb _ 9 (λ e. short (inr (inr (inl e)))),

@@ -2,7 +2,7 @@
 use mathlib.Core.Path.{◌≡◌, sym, ap, ◌∙◌}
 use Prim.Native.Nat.{◌+◌}
 use native.Mathlib.Omega.{arith}
-use borrow.Author.Tests.{eqb-true, not-true, not-false}
+use borrow.Author.Tests.{eqb-true}
 use lib.Dec.{eqb}
 use Rattle.values_points.specs.Written.{marks_in}
 use Rattle.question.proofs.Known.{few_points}
@@ -36,7 +36,7 @@ answers c =
 
 pub returns-then-not-is_present : goal.returns-then-not-is_present
 returns-then-not-is_present c =
-    rw (sym (answers (goal.at.returns-then-not-is_present c).After-is_present) ∙ not-true _ c.if-not-is_present.true)
+    rw (sym (answers (goal.at.returns-then-not-is_present c).After-is_present) ∙ c.if-not-is_present.true)
 
 pub rank_of-requires : goal.rank_of-requires
 rank_of-requires c =
@@ -50,7 +50,7 @@ rank c =
 
 pub value_by-requires : goal.value_by-requires
 value_by-requires c =
-    let one = sym (answers (goal.at.value_by-requires c).After-is_present) ∙ not-false _ c.if-not-is_present.false in
+    let one = sym (answers (goal.at.value_by-requires c).After-is_present) ∙ c.if-not-is_present.false in
     let marked = point_marked c.args.file.now c.args.description c.requires.0 c.requires.1 in
     (c.requires.0, rw (rank (goal.at.value_by-requires c).After-rank_of) (present_packed c.args.file.now c.args.description c.requires.0 c.requires.1 (sym marked ∙ eqb-true _ 1 one)))
 
@@ -58,5 +58,5 @@ pub returns : goal.returns
 returns c =
     let file = c.args.file.now in
     let d = c.args.description in
-    let one = sym (answers (goal.at.returns c).After-is_present) ∙ not-false _ c.if-not-is_present.false in
+    let one = sym (answers (goal.at.returns c).After-is_present) ∙ c.if-not-is_present.false in
     rw one (c.value_by.ensures ∙ ap (value_by file d) (rank (goal.at.returns c).After-rank_of ∙ sym (point_ranked file d c.requires.0 c.requires.1)))

@@ -2,7 +2,6 @@
 use mathlib.Core.Path.{◌≡◌, sym, ◌∙◌}
 use mathlib.Core.Bool.{true}
 use native.Mathlib.Omega.{arith}
-use borrow.Author.Tests.{not-true, not-false}
 use Rattle.octets.specs.Places.{place_of}
 use Rattle.calendar.specs.Calendar.{time_at}
 use Rattle.section_1.specs.Identification.{is_identification}
@@ -11,12 +10,11 @@ use Rattle.section_1.proofs.identification_at.Goals.{After-time_at, Else-not-is_
 use Rattle.section_1.proofs.identification_at.Goals as goal
 
 pub returns-then-not-is_identification : goal.returns-then-not-is_identification
-returns-then-not-is_identification c =
-    sym (other_octets _ _ (sym c.is_identification.ensures ∙ not-true _ c.if-not-is_identification.true))
+returns-then-not-is_identification c = sym (other_octets _ _ (sym c.is_identification.ensures ∙ c.if-not-is_identification.true))
 
 -- Past the test, the octets are as they are to be.
 tested : (c : Else-not-is_identification) → let args = c.args in is_identification args.file.now args.at.0 ≡ true
-tested c = sym c.is_identification.ensures ∙ not-false _ c.if-not-is_identification.false
+tested c = sym c.is_identification.ensures ∙ c.if-not-is_identification.false
 
 -- The time that `time_at` has read is that of octets 13-19.
 read : (c : After-time_at) →

@@ -1,6 +1,5 @@
 -- `section_3::degrees_at` meets its contract: its tests are those of the section, in order, and behind them its numbers make a grid or none.
 use mathlib.Core.Path.{◌≡◌, sym, ap, ap₂, ◌∙◌}
-use borrow.Author.Tests.{not-true, not-false}
 use Rattle.section.specs.Sections.{held}
 use Rattle.section_3_geometry.specs.Geometry.{is_taken}
 use Rattle.section_3_geometry.specs.declared.Grid.TheVariants as Grid
@@ -15,13 +14,13 @@ use Rattle.section_3.proofs.degrees_at.Goals as goal
 described : (c : Else-not-is_scanned) →
     let args = c.args in
     degrees_at args.file.now args.at.0 ≡ degrees_by args.file.now args.at.0 (radius_at args.file.now args.at.0)
-described c = rw (sym c.is_scanned.ensures ∙ not-false _ c.if-not-is_scanned.false)
+described c = rw (sym c.is_scanned.ensures ∙ c.if-not-is_scanned.false)
 
 by_metres : (c : In-Metres) →
     let args = c.args in
     degrees_at args.file.now args.at.0 ≡ degrees_by args.file.now args.at.0 (Radius.Metres c.in-Metres.radius)
 by_metres c =
-    let described : (let args = c.args in degrees_at args.file.now args.at.0 ≡ degrees_by args.file.now args.at.0 (radius_at args.file.now args.at.0)) = rw (sym c.is_scanned.ensures ∙ not-false _ c.if-not-is_scanned.false) in
+    let described : (let args = c.args in degrees_at args.file.now args.at.0 ≡ degrees_by args.file.now args.at.0 (radius_at args.file.now args.at.0)) = rw (sym c.is_scanned.ensures ∙ c.if-not-is_scanned.false) in
     described ∙ ap (degrees_by _ _) (sym c.radius_at.ensures ∙ c.in-Metres.is)
 
 -- The numbers were tested as they stand in the octets.
@@ -31,16 +30,16 @@ tested : (c : After-is_taken) →
 tested c = c.is_taken.ensures ∙ ap₂ is_taken c.degree_numbers_at-grid.ensures c.held-points.ensures.0
 
 pub returns-then-not-is_scanned : goal.returns-then-not-is_scanned
-returns-then-not-is_scanned c = rw (sym c.is_scanned.ensures ∙ not-true _ c.if-not-is_scanned.true)
+returns-then-not-is_scanned c = rw (sym c.is_scanned.ensures ∙ c.if-not-is_scanned.true)
 
 pub returns-then-not-is_taken : goal.returns-then-not-is_taken
 returns-then-not-is_taken c =
-    sym (by_metres (goal.at.returns-then-not-is_taken c).In-Metres ∙ degrees_not_taken _ _ _ (sym (tested (goal.at.returns-then-not-is_taken c).After-is_taken) ∙ not-true _ c.if-not-is_taken.true))
+    sym (by_metres (goal.at.returns-then-not-is_taken c).In-Metres ∙ degrees_not_taken _ _ _ (sym (tested (goal.at.returns-then-not-is_taken c).After-is_taken) ∙ c.if-not-is_taken.true))
 
 pub returns-else-not-is_taken : goal.returns-else-not-is_taken
 returns-else-not-is_taken c =
     ap (λ g. Gridded.On (Grid.Degrees g)) c.degree_numbers_at-grid.ensures
-    ∙ sym (by_metres (goal.at.returns-else-not-is_taken c).In-Metres ∙ degrees_taken _ _ _ (sym (tested (goal.at.returns-else-not-is_taken c).After-is_taken) ∙ not-false _ c.if-not-is_taken.false))
+    ∙ sym (by_metres (goal.at.returns-else-not-is_taken c).In-Metres ∙ degrees_taken _ _ _ (sym (tested (goal.at.returns-else-not-is_taken c).After-is_taken) ∙ c.if-not-is_taken.false))
 
 pub returns-in-Unknown : goal.returns-in-Unknown
 returns-in-Unknown c =

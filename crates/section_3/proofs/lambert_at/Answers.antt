@@ -1,6 +1,5 @@
 -- `section_3::lambert_at` meets its contract: its tests are those of the section, in order, and behind them its numbers make a grid or none.
 use mathlib.Core.Path.{◌≡◌, sym, ap, ap₂, ◌∙◌}
-use borrow.Author.Tests.{not-true, not-false}
 use Rattle.section.specs.Sections.{held}
 use Rattle.section_3_geometry.specs.declared.Grid.TheVariants as Grid
 use Rattle.section_3_lambert.specs.Lambert.{is_lambert_grid}
@@ -15,13 +14,13 @@ use Rattle.section_3.proofs.lambert_at.Goals as goal
 described : (c : Else-not-is_projected) →
     let args = c.args in
     lambert_at args.file.now args.at.0 ≡ lambert_by args.file.now args.at.0 (radius_at args.file.now args.at.0)
-described c = rw (sym c.is_projected.ensures ∙ not-false _ c.if-not-is_projected.false)
+described c = rw (sym c.is_projected.ensures ∙ c.if-not-is_projected.false)
 
 by_metres : (c : In-Metres) →
     let args = c.args in
     lambert_at args.file.now args.at.0 ≡ lambert_by args.file.now args.at.0 (Radius.Metres c.in-Metres.radius)
 by_metres c =
-    let described : (let args = c.args in lambert_at args.file.now args.at.0 ≡ lambert_by args.file.now args.at.0 (radius_at args.file.now args.at.0)) = rw (sym c.is_projected.ensures ∙ not-false _ c.if-not-is_projected.false) in
+    let described : (let args = c.args in lambert_at args.file.now args.at.0 ≡ lambert_by args.file.now args.at.0 (radius_at args.file.now args.at.0)) = rw (sym c.is_projected.ensures ∙ c.if-not-is_projected.false) in
     described ∙ ap (lambert_by _ _) (sym c.radius_at.ensures ∙ c.in-Metres.is)
 
 -- The numbers were tested as they stand in the octets.
@@ -31,16 +30,16 @@ tested : (c : After-is_taken) →
 tested c = c.is_taken.ensures ∙ ap₂ is_lambert_grid c.lambert_numbers_at-grid.ensures c.held-points.ensures.0
 
 pub returns-then-not-is_projected : goal.returns-then-not-is_projected
-returns-then-not-is_projected c = rw (sym c.is_projected.ensures ∙ not-true _ c.if-not-is_projected.true)
+returns-then-not-is_projected c = rw (sym c.is_projected.ensures ∙ c.if-not-is_projected.true)
 
 pub returns-then-not-is_taken : goal.returns-then-not-is_taken
 returns-then-not-is_taken c =
-    sym (by_metres (goal.at.returns-then-not-is_taken c).In-Metres ∙ lambert_not_taken _ _ _ (sym (tested (goal.at.returns-then-not-is_taken c).After-is_taken) ∙ not-true _ c.if-not-is_taken.true))
+    sym (by_metres (goal.at.returns-then-not-is_taken c).In-Metres ∙ lambert_not_taken _ _ _ (sym (tested (goal.at.returns-then-not-is_taken c).After-is_taken) ∙ c.if-not-is_taken.true))
 
 pub returns-else-not-is_taken : goal.returns-else-not-is_taken
 returns-else-not-is_taken c =
     ap (λ g. Gridded.On (Grid.Lambert g)) c.lambert_numbers_at-grid.ensures
-    ∙ sym (by_metres (goal.at.returns-else-not-is_taken c).In-Metres ∙ lambert_taken _ _ _ (sym (tested (goal.at.returns-else-not-is_taken c).After-is_taken) ∙ not-false _ c.if-not-is_taken.false))
+    ∙ sym (by_metres (goal.at.returns-else-not-is_taken c).In-Metres ∙ lambert_taken _ _ _ (sym (tested (goal.at.returns-else-not-is_taken c).After-is_taken) ∙ c.if-not-is_taken.false))
 
 pub returns-in-Unknown : goal.returns-in-Unknown
 returns-in-Unknown c =

@@ -2,7 +2,6 @@
 use mathlib.Core.Path.{sym, ap, ◌∙◌}
 use Prim.Native.Nat.{◌-◌}
 use native.Mathlib.Omega.{arith}
-use borrow.Author.Tests.{not-true, not-false}
 use Rattle.section_3_geometry.specs.Geometry.{is_spanned}
 use Rattle.section_3_geometry.proofs.Tests.{cornered, span_east_bound, span_south_bound, east_fails, south_decides}
 use Rattle.section_3_geometry.proofs.is_stepped.Goals as goal
@@ -13,7 +12,7 @@ is_spanned-requires c =
 
 pub returns-then-not-is_spanned : goal.returns-then-not-is_spanned
 returns-then-not-is_spanned c =
-    sym (east_fails c.args.grid c.span_east.ensures (sym c.is_spanned.ensures ∙ not-true _ c.if-not-is_spanned.true))
+    sym (east_fails c.args.grid c.span_east.ensures (sym c.is_spanned.ensures ∙ c.if-not-is_spanned.true))
 
 pub is_spanned-requires-2 : goal.is_spanned-requires-2
 is_spanned-requires-2 c =
@@ -24,4 +23,4 @@ returns c =
     let g = c.args.grid in
     c.is_spanned-2.ensures
     ∙ ap (is_spanned (g.frame.nj - 1) g.dj) c.span_south.ensures
-    ∙ sym (south_decides g c.span_east.ensures (sym c.is_spanned.ensures ∙ not-false _ c.if-not-is_spanned.false))
+    ∙ sym (south_decides g c.span_east.ensures (sym c.is_spanned.ensures ∙ c.if-not-is_spanned.false))

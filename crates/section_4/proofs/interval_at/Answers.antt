@@ -98,5 +98,5 @@ returns-in-1 c =
 
 pub returns-in_default-octet : goal.returns-in_default-octet
 returns-in_default-octet c =
-    let kind = rw c.octet-3.ensures.0 at c.in_default-octet.rest in
+    let kind = rw c.octet-3.ensures.0 at c.in_default-octet.in_default-octet-own.rest in
     simp (eq-eqb _ 1 (one_range (goal.at.returns-in_default-octet c).Else-octet-ne1), ne_eqb _ 0 kind.0.1, ne_eqb _ 1 kind.1)

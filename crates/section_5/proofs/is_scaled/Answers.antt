@@ -1,7 +1,6 @@
 -- `section_5::is_scaled` meets its contract: a limit that is passed decides, and where none is, octet 21 decides.
 use mathlib.Core.Path.{◌≡◌, ap, sym, ◌∙◌}
 use native.Mathlib.Omega.{arith}
-use borrow.Author.Tests.{not-true, not-false}
 use lib.Ieee.{binary32, of_bits}
 use lib.Ieee.Scale.{finite}
 use Rattle.octets.specs.declared.Signed.{Signed}
@@ -28,7 +27,7 @@ size_d c = ap (λ (d : Signed). d.size) c.held_signed-d.ensures
 
 pub returns-then-not-is_finite : goal.returns-then-not-is_finite
 returns-then-not-is_finite c =
-    sym (not_finite _ _ (sym (finite_r_lem (goal.at.returns-then-not-is_finite c).After-is_finite) ∙ not-true _ c.if-not-is_finite.true))
+    sym (not_finite _ _ (sym (finite_r_lem (goal.at.returns-then-not-is_finite c).After-is_finite) ∙ c.if-not-is_finite.true))
 
 pub returns-then-e-gt127 : goal.returns-then-e-gt127
 returns-then-e-gt127 c = sym (limited_not _ _ (omega (arith, size_e (goal.at.returns-then-e-gt127 c).After-held_signed-e)))
@@ -42,4 +41,4 @@ returns-then-octet-gt31 c = sym (limited_not _ _ (omega arith))
 pub returns : goal.returns
 returns c =
     rw c.octet-2.ensures.0
-    (sym (doubles_decide _ _ (sym (finite_r_lem (goal.at.returns c).After-is_finite) ∙ not-false _ c.if-not-is_finite.false) (omega (arith, size_e (goal.at.returns c).After-held_signed-e, size_d (goal.at.returns c).After-held_signed-d))))
+    (sym (doubles_decide _ _ (sym (finite_r_lem (goal.at.returns c).After-is_finite) ∙ c.if-not-is_finite.false) (omega (arith, size_e (goal.at.returns c).After-held_signed-e, size_d (goal.at.returns c).After-held_signed-d))))

@@ -2,7 +2,6 @@
 use mathlib.Core.Path.{◌≡◌, sym, ◌∙◌}
 use Prim.Native.Nat.{◌≤◌}
 use native.Mathlib.Omega.{arith}
-use borrow.Author.Tests.{not-true, not-false}
 use Rattle.section.specs.Sections.{length_at}
 use Rattle.section_5.specs.declared.TemplateReading.TheVariants as TemplateReading
 use Rattle.section_5.specs.Representation.{data_template_at}
@@ -27,7 +26,7 @@ is_scaled-requires c = (c.requires, long (goal.at.is_scaled-requires c).In-Is)
 
 pub returns-then-not-is_scaled : goal.returns-then-not-is_scaled
 returns-then-not-is_scaled c =
-    sym (no_limits_kept _ _ (read (goal.at.returns-then-not-is_scaled c).In-Is) (sym c.is_scaled.ensures ∙ not-true _ c.if-not-is_scaled.true))
+    sym (no_limits_kept _ _ (read (goal.at.returns-then-not-is_scaled c).In-Is) (sym c.is_scaled.ensures ∙ c.if-not-is_scaled.true))
 
 pub held-n-requires : goal.held-n-requires
 held-n-requires c = omega (arith, long (goal.at.held-n-requires c).In-Is)
@@ -53,4 +52,4 @@ returns c =
       c.held-r.ensures.0,
       c.held-n.ensures.0,
     )
-    (sym (taken _ _ (read (goal.at.returns c).In-Is) (sym c.is_scaled.ensures ∙ not-false _ c.if-not-is_scaled.false)))
+    (sym (taken _ _ (read (goal.at.returns c).In-Is) (sym c.is_scaled.ensures ∙ c.if-not-is_scaled.false)))

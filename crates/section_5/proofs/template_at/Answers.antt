@@ -33,4 +33,4 @@ returns-else-held-ne3 c =
 pub returns-in_default : goal.returns-in_default
 returns-in_default c =
     let read = c.length_of.ensures.0 in
-    sym (no_template _ _ (λ e. c.in_default.rest.0.1 (read ∙ e)) (λ e. c.in_default.rest.1 (read ∙ e)))
+    sym (no_template _ _ (λ e. c.in_default.in_default-own.rest.0.1 (read ∙ e)) (λ e. c.in_default.in_default-own.rest.1 (read ∙ e)))

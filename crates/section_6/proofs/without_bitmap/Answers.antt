@@ -43,4 +43,4 @@ returns-else-points-n c =
 
 pub returns-in_default : goal.returns-in_default
 returns-in_default c =
-    simp (indicator (goal.at.returns-in_default c).After-octet, ne_eqb _ 254 c.in_default.rest.0.1, ne_eqb _ 255 c.in_default.rest.1)
+    simp (indicator (goal.at.returns-in_default c).After-octet, ne_eqb _ 254 c.in_default.in_default-own.rest.0.1, ne_eqb _ 255 c.in_default.in_default-own.rest.1)

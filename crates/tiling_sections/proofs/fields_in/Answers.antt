@@ -80,7 +80,7 @@ loop-number-smaller c = let w = within (goal.at.loop-number-smaller c).In-Next i
 pub loop-number-preserved : goal.loop-number-preserved
 unfolding bitmap_after
 loop-number-preserved c =
-    let others = c.in_default.rest in
+    let others = c.in_default.in_default-own.rest in
     let on = reached_on c.loop-number.invariant (met (goal.at.loop-number-preserved c).In-Next) in
     rw c.starts_after-starts-in-Next.ensures
     (rw (ne_eqb _ 3 others.0.0.1, ne_eqb _ 6 others.0.1, ne_eqb _ 7 others.1) at on)

@@ -28,7 +28,7 @@ returns-else-number-eq3 c = rw (c.in-7.is, ne_eqb _ 3 c.if-number-eq3.false)
 
 pub returns-in_default : goal.returns-in_default
 returns-in_default c =
-    let others = c.in_default.rest in
+    let others = c.in_default.in_default-own.rest in
     simp (
       ne_eqb _ 0 others.0.0.0.0.0.0.1,
       ne_eqb _ 1 others.0.0.0.0.0.1,

@@ -34,7 +34,7 @@ returns-in-7 c = rw c.in-7.is
 pub returns-in_default : goal.returns-in_default
 unfolding starts_after
 returns-in_default c =
-    let others = c.in_default.rest in
+    let others = c.in_default.in_default-own.rest in
     simp (
       ne_eqb _ 0 others.0.0.0.0.0.0.1,
       ne_eqb _ 1 others.0.0.0.0.0.1,

@@ -7,7 +7,7 @@ use Rattle.values_integers.proofs.Joined.{worked_sound}
 use Rattle.values_integers.specs.Integers.{stored_at, are_in_range}
 use Rattle.values_complex.specs.Complex.{integer_in, single_of}
 use Rattle.values_complex.proofs.Joined.{first_out, second_out, range_worked, first_single, single_kept, single_out}
-use Rattle.values_complex.proofs.integer_at.Goals.{Else-differencing-gt2147483647}
+use Rattle.values_complex.proofs.integer_at.Goals.{Else-differencing-gt2147483647-2}
 use Rattle.values_complex.proofs.integer_at.Goals as goal
 
 pub returns-then-differencing-gt2147483647 : goal.returns-then-differencing-gt2147483647
@@ -26,15 +26,15 @@ returns-then-differencing-gt2147483647-2 c =
     single_out a.section.now a.groups a.m (second_out a.section.now a.groups c.if-differencing-gt2147483647-2.true (suc a.m) (omega (arith, c.if-m-eq0.false)))
 
 -- The integer is not the first.
-behind : (c : Else-differencing-gt2147483647) → 1 ≤ c.args.m
+behind : (c : Else-differencing-gt2147483647-2) → 1 ≤ c.args.m
 behind c = omega (arith, c.if-m-eq0.false)
 
 pub overflow_sub-m : goal.overflow_sub-m
-overflow_sub-m c = omega (arith, behind (goal.at.overflow_sub-m c).Else-differencing-gt2147483647)
+overflow_sub-m c = omega (arith, behind (goal.at.overflow_sub-m c).Else-differencing-gt2147483647-2)
 
 pub worked_to-requires : goal.worked_to-requires
 worked_to-requires c =
-    ((c.requires.0, omega (arith, c.requires.1, behind (goal.at.worked_to-requires c).Else-differencing-gt2147483647)), (c.if-differencing-gt2147483647.false, c.if-differencing-gt2147483647-2.false))
+    ((c.requires.0, omega (arith, c.requires.1, behind (goal.at.worked_to-requires c).Else-differencing-gt2147483647-2)), (c.if-differencing-gt2147483647.false, c.if-differencing-gt2147483647-2.false))
 
 pub overflow_cast-result : goal.overflow_cast-result
 overflow_cast-result c =
@@ -45,13 +45,13 @@ overflow_cast-result c =
 pub returns-in-Kept : goal.returns-in-Kept
 returns-in-Kept c =
     let a = c.args in
-    let own : suc (a.m - 1) ≡ a.m = omega (arith, behind (goal.at.returns-in-Kept c).Else-differencing-gt2147483647) in
+    let own : suc (a.m - 1) ≡ a.m = omega (arith, behind (goal.at.returns-in-Kept c).Else-differencing-gt2147483647-2) in
     single_kept a.section.now a.groups (a.m - 1) (sym c.worked_to.ensures ∙ c.in-Kept.is) ∙ ap (single_of (integer_in a.section.now a.groups)) own
 
 pub returns-in-Out : goal.returns-in-Out
 returns-in-Out c =
     let a = c.args in
-    let own : a.m - 1 + 2 ≡ suc a.m = omega (arith, behind (goal.at.returns-in-Out c).Else-differencing-gt2147483647) in
+    let own : a.m - 1 + 2 ≡ suc a.m = omega (arith, behind (goal.at.returns-in-Out c).Else-differencing-gt2147483647-2) in
     single_out a.section.now a.groups a.m
     (sym (ap (are_in_range (integer_in a.section.now a.groups)) own)
     ∙ range_worked a.section.now a.groups (a.m - 1)
