@@ -39,11 +39,11 @@ level_held_lem file s level e =
 -- The latitudes of a grid that has passed its tests are within their limits.
 latitudes_held : (file : List ℕ) (s : ℕ) (g : Grid) → Passes file s g → LatitudesHeld g
 latitudes_held file s (Grid.Degrees g) passes =
-    let corners = cornered g (degrees.taken-measured g (held file s 7 10) passes.0).corners in
+    let corners = cornered g (degrees.taken_measured g (held file s 7 10) passes.0).corners in
     (corners.first.latitude, corners.last.latitude)
 latitudes_held file s (Grid.Lambert g) passes =
-    let cone = sheet.taken-cone g (held file s 7 10) passes.0 in
-    (sheet.taken-first g (held file s 7 10) passes.0, cone.0, cone.1, cone.2)
+    let cone = sheet.taken_cone g (held file s 7 10) passes.0 in
+    (sheet.taken_first g (held file s 7 10) passes.0, cone.0, cone.1, cone.2)
 
 module _ (file : List ℕ) (k : ℕ) {d : Description} (said : describe file k ≡ Described.As d) where
   starts_held : StartsHeld d.starts
@@ -86,7 +86,7 @@ product_held {i} {length} h k = let most : i * length ≤ 4294967295 * 214748364
 
 pub sheet_held : (g : LambertGrid) (points n : ℕ) → Lambert.is_lambert_grid g points ≡ true → n < 2 ^ 32 → SheetHeld (sheet_of g n)
 sheet_held g points n taken few =
-    let measured = sheet.taken-measured g points taken in (
+    let measured = sheet.taken_measured g points taken in (
       product_held {length = g.dx} (omega (arith, few, mod-le n g.frame.ni)) (omega (arith, measured.across)),
       product_held {length = g.dy} (omega (arith, few, div-le_self n g.frame.ni)) (omega (arith, measured.down)),
     )

@@ -80,8 +80,8 @@ module _ (file : List ℕ) (s : ℕ) where
   grid_counted {g} e = by g (grid_passes e)
     where
       by : (g : Grid) → Passes g → Counted (frame_of g) points
-      by (Grid.Degrees g) passes = degrees.taken-counted g points passes.0
-      by (Grid.Lambert g) passes = lambert.taken-counted g points passes.0
+      by (Grid.Degrees g) passes = degrees.taken_counted g points passes.0
+      by (Grid.Lambert g) passes = lambert.taken_counted g points passes.0
 
   pub grid_few : {g : Grid} → grid_at file s ≡ Gridded.On g → points_of g ≤ 16777216
   grid_few e = let count = grid_counted e in rw count.all at count.most

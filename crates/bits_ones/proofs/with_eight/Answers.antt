@@ -4,23 +4,18 @@ use Prim.Native.Nat.{◌≤◌}
 use native.Mathlib.Omega.{arith}
 use lib.Count.{ones, ones-le}
 use Rattle.bits_ones.proofs.Adding.{tallied}
-use Rattle.bits_ones.proofs.with_eight.Goals.{After-add_three-g}
 use Rattle.bits_ones.proofs.with_eight.Goals as goal
 
--- The last carry is a word.
-in_carry : (c : After-add_three-g) → ones c.add_three-g.result.carry ≤ 64
-in_carry c = ones-le 64 c.add_three-g.result.carry c.struct_known-1.given.1.0.fits
-
 pub overflow_cast-result : goal.overflow_cast-result
-overflow_cast-result c = omega (arith, in_carry (goal.at.overflow_cast-result c).After-add_three-g)
+overflow_cast-result c =  -- The last carry is a word.
+    omega (arith, ones-le 64 c.add_three-g.result.carry c.struct_known-1.given.1.0.fits)
 
 pub overflow_add-result : goal.overflow_add-result
-overflow_add-result c = omega (arith, in_carry (goal.at.overflow_add-result c).After-add_three-g)
+overflow_add-result c = omega (arith, ones-le 64 c.add_three-g.result.carry c.struct_known-1.given.1.0.fits)
 
 pub returns : goal.returns
 returns c =
-    let first = c in
-    let a = first.before.before.args in
-    tallied a.run.now a.at a.tally first.with_two.result c.with_two-b.result c.with_two-c.result c.with_two-d.result
-    c.add_three-e.result c.add_three-f.result c.add_three-g.result first.with_two.ensures c.with_two-b.ensures c.with_two-c.ensures c.with_two-d.ensures
+    let a = c.args in
+    tallied a.run.now a.at a.tally c.with_two-a.result c.with_two-b.result c.with_two-c.result c.with_two-d.result
+    c.add_three-e.result c.add_three-f.result c.add_three-g.result c.with_two-a.ensures c.with_two-b.ensures c.with_two-c.ensures c.with_two-d.ensures
     c.add_three-e.ensures c.add_three-f.ensures c.add_three-g.ensures

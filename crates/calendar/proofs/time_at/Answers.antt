@@ -30,7 +30,7 @@ tested c = rw c.number_at-year.ensures.0 at c.is_date.ensures
 pub returns-then-not-is_date : goal.returns-then-not-is_date
 returns-then-not-is_date c =
     let args = c.args in
-    sym (read_no_date args.file.now args.at.0 (sym (tested (goal.at.returns-then-not-is_date c).After-is_date) ∙ not-true c.is_date.result c.if-not-is_date.true))
+    sym (read_no_date args.file.now args.at.0 (sym (tested (goal.at.returns-then-not-is_date c).After-is_date) ∙ c.if-not-is_date.true))
 
 pub returns-then-hour-gt23 : goal.returns-then-hour-gt23
 returns-then-hour-gt23 c =
@@ -50,5 +50,5 @@ returns-then-second-gt59 c =
 pub returns : goal.returns
 returns c =
     let args = c.args in
-    let in_range_lem = date_in_range (octets_time args.file.now args.at.0).date (sym (tested (goal.at.returns c).After-is_date) ∙ not-false c.is_date.result c.if-not-is_date.false) in
+    let in_range_lem = date_in_range (octets_time args.file.now args.at.0).date (sym (tested (goal.at.returns c).After-is_date) ∙ c.if-not-is_date.false) in
     rw c.number_at-year.ensures.0 (sym (read_time args.file.now args.at.0 (omega arith)))

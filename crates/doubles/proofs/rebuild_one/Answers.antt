@@ -11,16 +11,16 @@ use Rattle.doubles.specs.declared.Packing.{Packing}
 use Rattle.doubles.specs.declared.Rebuilt.TheVariants.{Double}
 use Rattle.doubles.specs.Doubles.{rebuilt, is_in_range, is_rebuildable}
 use Rattle.doubles.proofs.Answers.{too_large, below_zero, in_range_lem, by_packing, refused, answered}
-use Rattle.doubles.proofs.rebuild_one.Goals.{Else-d-gt22, Else-not-is_finite, Joined-x}
+use Rattle.doubles.proofs.rebuild_one.Goals.{then-x+else-x-ne0, else-x, Else-d-gt22, Else-not-is_finite, Joined-x}
 use Rattle.doubles.proofs.rebuild_one.Goals as goal
 
 pub returns-then-not-is_finite : goal.returns-then-not-is_finite
 returns-then-not-is_finite c =
-    c.not_rebuildable.ensures ∙ simp (sym c.is_finite.ensures ∙ not-true c.is_finite.result c.if-not-is_finite.true)
+    c.not_rebuildable.ensures ∙ simp (sym c.is_finite.ensures ∙ c.if-not-is_finite.true)
 
 -- Behind the first test R is finite.
 is_finite : (c : Else-not-is_finite) → finite (of_bits binary32 c.args.r) ≡ true
-is_finite c = sym c.is_finite.ensures ∙ not-false c.is_finite.result c.if-not-is_finite.false
+is_finite c = sym c.is_finite.ensures ∙ c.if-not-is_finite.false
 
 pub returns-then-e-gt127 : goal.returns-then-e-gt127
 returns-then-e-gt127 c =
@@ -34,7 +34,7 @@ returns-then-d-gt22 c =
 -- Behind the third test all turns on X.
 by_x : (c : Else-d-gt22) → let a = c.args in is_rebuildable a.r a.e a.d a.x ≡ is_in_range (whole a.x)
 by_x c =
-    let is_finite : (finite (of_bits binary32 c.args.r) ≡ true) = sym c.is_finite.ensures ∙ not-false c.is_finite.result c.if-not-is_finite.false in
+    let is_finite : (finite (of_bits binary32 c.args.r) ≡ true) = sym c.is_finite.ensures ∙ c.if-not-is_finite.false in
     simp (is_finite, le-leb _ _ c.if-e-gt127.false, le-leb _ _ c.if-d-gt22.false)
 
 pub returns-then-x-gt2147483647 : goal.returns-then-x-gt2147483647
@@ -56,7 +56,7 @@ packing_of-requires c =
 
 -- Behind the last test X is in its range: it is below zero by its sign only where its size is 0.
 is_packed_lem : (c : Joined-x) → is_in_range (whole c.args.x) ≡ true
-is_packed_lem c = ⊎_elim (λ w. simp (w.0.true, w.2.false)) (λ w. simp (w.left, in_range_lem _ c.if-x-gt2147483647.false)) c.if-x.branch-raw
+is_packed_lem c = elim c.if-x.branch [ then-x+else-x-ne0 w ↦ simp (w.if-x.true, w.if-x-ne0.false) | else-x w ↦ simp (w.if-x.false, in_range_lem _ c.if-x-gt2147483647.false) ]
 
 pub returns : goal.returns
 returns c =

@@ -11,11 +11,11 @@ use Rattle.section_4.proofs.is_product.Goals.{Else-held-gt2147483647, Else-held-
 use Rattle.section_4.proofs.is_product.Goals as goal
 
 pub returns-then-not-is_template : goal.returns-then-not-is_template
-returns-then-not-is_template c = simp (sym c.is_template.ensures ∙ not-true c.is_template.result c.if-not-is_template.true)
+returns-then-not-is_template c = simp (sym c.is_template.ensures ∙ c.if-not-is_template.true)
 
 -- What holds behind the first test, the second and the third.
 template : (c : Else-not-is_template) → let a = c.args in is_template a.file.now a.at.0 ≡ true
-template c = sym c.is_template.ensures ∙ not-false c.is_template.result c.if-not-is_template.false
+template c = sym c.is_template.ensures ∙ c.if-not-is_template.false
 
 no_coordinates : (c : Else-held-ne0) → let a = c.args in eqb (held a.file.now a.at.0 6 7) 0 ≡ true
 no_coordinates c = eq-eqb _ 0 (sym c.held.ensures.0 ∙ c.if-held-ne0.false)

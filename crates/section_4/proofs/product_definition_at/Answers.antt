@@ -21,7 +21,7 @@ returns-then-not-is_product c =
 
 -- Behind the first test it is a product, and so its template is known and it has at least 34 octets.
 is : (c : Else-not-is_product) → let a = c.args in is_product a.file.now a.at.0 ≡ true
-is c = sym c.is_product.ensures ∙ not-false c.is_product.result c.if-not-is_product.false
+is c = sym c.is_product.ensures ∙ c.if-not-is_product.false
 
 long : (c : Else-not-is_product) → let a = c.args in 34 ≤ length_at a.file.now a.at.0
 long c = template_length _ _ (product_template _ _ (is c))

@@ -33,7 +33,7 @@ returns-then-not-is_bitmap c =
     simp (
       le-ltb _ 6 (long_enough (goal.at.returns-then-not-is_bitmap c).Else-length-lt6),
       indicator (goal.at.returns-then-not-is_bitmap c).After-octet ∙ c.if-octet-eq0.true,
-      sym c.is_bitmap.ensures ∙ not-true c.is_bitmap.result c.if-not-is_bitmap.true,
+      sym c.is_bitmap.ensures ∙ c.if-not-is_bitmap.true,
     )
 
 pub returns-then-octet-eq0 : goal.returns-then-octet-eq0
@@ -42,7 +42,7 @@ returns-then-octet-eq0 c =
     simp (
       le-ltb _ 6 (long_enough (goal.at.returns-then-octet-eq0 c).Else-length-lt6),
       indicator (goal.at.returns-then-octet-eq0 c).After-octet ∙ c.if-octet-eq0.true,
-      sym c.is_bitmap.ensures ∙ not-false c.is_bitmap.result c.if-not-is_bitmap.false,
+      sym c.is_bitmap.ensures ∙ c.if-not-is_bitmap.false,
     )
 
 pub returns-then-length-ne6 : goal.returns-then-length-ne6

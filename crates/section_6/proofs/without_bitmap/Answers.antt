@@ -22,7 +22,7 @@ returns-then-not-is_bitmap c =
     simp (
       indicator (goal.at.returns-then-not-is_bitmap c).After-octet ∙ c.in-254.is,
       c.in-At.is,
-      sym c.is_bitmap.ensures ∙ not-true c.is_bitmap.result c.if-not-is_bitmap.true,
+      sym c.is_bitmap.ensures ∙ c.if-not-is_bitmap.true,
     )
 
 pub returns-then-points-n : goal.returns-then-points-n
@@ -34,7 +34,7 @@ returns-else-not-is_bitmap c =
     simp (
       indicator (goal.at.returns-else-not-is_bitmap c).After-octet ∙ c.in-254.is,
       c.in-At.is,
-      sym c.is_bitmap.ensures ∙ not-false c.is_bitmap.result c.if-not-is_bitmap.false,
+      sym c.is_bitmap.ensures ∙ c.if-not-is_bitmap.false,
     )
 
 pub returns-else-points-n : goal.returns-else-points-n

@@ -11,7 +11,7 @@ use Rattle.tiling_sections.specs.declared.Step.TheVariants as Step
 use Rattle.tiling_sections.specs.Walk.{section_at, starts_after, bitmap_after}
 use Rattle.tiling_sections.proofs.Laws.{next_within}
 use Rattle.tiling_sections.proofs.Reached.{reached_start, reached_on, reached_end, reached_bad}
-use Rattle.tiling_sections.proofs.fields_in.Goals.{After-starts_after-starts, In-Next}
+use Rattle.tiling_sections.proofs.fields_in.Goals.{then-count-k, else-count-k, After-starts_after-starts, In-Next}
 use Rattle.tiling_sections.proofs.fields_in.Goals as goal
 
 pub loop-number-init : goal.loop-number-init
@@ -71,8 +71,7 @@ loop-number-preserved-in-7 c =
     let seven = c.in-7.is in
     let starts = c.starts_after-starts-in-Next.ensures in
     let on = reached_on c.loop-number.invariant (rw seven at (met (goal.at.loop-number-preserved-in-7 c).In-Next)) in
-    ⊎_elim (λ w. rw (w.1, starts, seven) (rw (eq-eqb _ _ w.0.true) at on)) (λ w. rw (w.1, starts, seven) (rw (ne_eqb _ _ w.0.false) at on))
-    c.if-count-k.branch-raw
+    elim c.if-count-k.branch [ then-count-k w ↦ rw (w.hit-is, starts, seven) (rw (eq-eqb _ _ w.if-count-k.true) at on) | else-count-k w ↦ rw (w.hit-is, starts, seven) (rw (ne_eqb _ _ w.if-count-k.false) at on) ]
 
 pub loop-number-smaller : goal.loop-number-smaller
 loop-number-smaller c = let w = within (goal.at.loop-number-smaller c).In-Next in omega arith
