@@ -24,8 +24,8 @@ abbrev pub is_bitmap : List ℕ → ℕ → ℕ → ℕ → Bool
 is_bitmap file p points n = eqb (length_at file p) (bitmap_length points) && eqb (ones_before (bitmap_in file p points) points) n
 
 -- Indicator 0: the section has a bitmap of its own.
-abbrev pub field_own : List ℕ → ℕ → ℕ → ℕ → Marked
-field_own file s points n = cond (is_bitmap file s points n) (Marked.As (Presence.Own (at s))) Marked.NotTaken
+abbrev pub own_at : List ℕ → ℕ → ℕ → ℕ → Marked
+own_at file s points n = cond (is_bitmap file s points n) (Marked.As (Presence.Own (at s))) Marked.NotTaken
 
 -- Indicator 254: the latest bitmap of the grid is used again.
 abbrev pub earlier_at : List ℕ → Bitmap → ℕ → ℕ → Marked
@@ -47,7 +47,7 @@ without_bitmap file s bitmap points n =
 unfoldable pub presence_at : List ℕ → ℕ → Bitmap → ℕ → ℕ → Marked
 presence_at file s bitmap points n =
     cond (ltb (length_at file s) 6) Marked.NotTaken
-    (cond (eqb (octet file s 6) 0) (field_own file s points n)
+    (cond (eqb (octet file s 6) 0) (own_at file s points n)
     (cond (eqb (length_at file s) 6) (without_bitmap file s bitmap points n)
     Marked.NotTaken))
 

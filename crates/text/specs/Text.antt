@@ -1,12 +1,12 @@
 -- RULES, "Listing": text as octets in a run that is lent whole: what is put, and where. What lies before and behind it stays as it is.
 use Rattle.std.specs.Prelude.{ℕ, zero, suc, ◌+◌, ◌-◌, ◌*◌, ◌/◌, cond, List, [], ◌∷◌, ◌++◌, ltb}
 use Prim.Native.Char.{code}
-use Prim.Native.String.{String, [] as noText, ◌∷◌ as ◌andThen◌}
+use Prim.Native.String.{String, [] as no_text, ◌∷◌ as ◌and_then◌}
 use Rattle.calendar.specs.Calendar.{digit}
 
 -- The octets of a text: the codes of its characters.
 abbrev pub ascii : String → List ℕ
-ascii noText = []
+ascii no_text = []
 ascii (c and_then s) = code c ∷ ascii s
 
 -- The last decimal digit of a number.

@@ -12,7 +12,7 @@ use Rattle.listing.proofs.main.Goals as goal
 zeros : (n : ℕ) → n ≡ length (replicate {A = ℕ} n 0)
 zeros n = sym (length-replicate n 0)
 
-inside : (c : After-print-printout) → c.print-printout.result.length ≤ length c.print-printout.new.0
+inside : (c : After-print-printout) → c.print-printout.result.length ≤ length c.print-printout.new.text
 inside c = print_inside c.print-printout.ensures
 
 pub slice_bounds-print-end : goal.slice_bounds-print-end
@@ -22,7 +22,7 @@ pub slice_bounds-print-end-2 : goal.slice_bounds-print-end-2
 slice_bounds-print-end-2 c = sym c.input-2-1.given
 
 pub print-printout-requires : goal.print-printout-requires
-print-printout-requires c = (le_of_eq (sym c.input-2-1.given), (c.read_full-got.ensures.0, le_of_eq (zeros 655360)))
+print-printout-requires c = record { in_bounds = le_of_eq (sym c.input-2-1.given); got_in_bounds = c.read_full-got.ensures.0; in_bounds_2 = le_of_eq (zeros 655360) }
 
 pub slice_bounds-text-end : goal.slice_bounds-text-end
 slice_bounds-text-end c = inside (goal.at.slice_bounds-text-end c).After-print-printout

@@ -29,13 +29,13 @@ taken c = sym c.check.ensures ∙ c.in-Counts.is
 few : (c : After-put_decimal-word) → fields c ≤ 3276
 few c = few_fields_lem (start c).args.input.now _ (fields c) (short c) (taken c)
 
-told_number : (c : After-put_decimal-word) → Told (start c).args.run.now 0 (decimal (fields c)) 655340 c.put_decimal-word.new.0 c.put_decimal-word.result
+told_number : (c : After-put_decimal-word) → Told (start c).args.run.now 0 (decimal (fields c)) 655340 c.put_decimal-word.new.run c.put_decimal-word.result
 told_number c = told-then (decimal (fields c)) 20 655340 (told_none _ _ 655360 (start c).requires) (decimal_short _) c.put_decimal-word.ensures
 
 -- The count's line, behind which there is room for the lines of all fields.
-told_count : (c : After-put-first) → Told ((c)).args.run.now 0 (count_text ((c.in-Counts.fields))) 655332 c.put-first.new.0 c.put-first.result
+told_count : (c : After-put-first) → Told ((c)).args.run.now 0 (count_text ((c.in-Counts.fields))) 655332 c.put-first.new.run c.put-first.result
 told_count c =
-    let told_number : (Told ((c)).args.run.now 0 (decimal ((c.in-Counts.fields))) 655340 c.put_decimal-word.new.0 c.put_decimal-word.result) = told-then (decimal ((c.in-Counts.fields))) 20 655340 (told_none _ _ 655360 ((c)).requires) (decimal_short _) c.put_decimal-word.ensures in
+    let told_number : (Told ((c)).args.run.now 0 (decimal ((c.in-Counts.fields))) 655340 c.put_decimal-word.new.run c.put_decimal-word.result) = told-then (decimal ((c.in-Counts.fields))) 20 655340 (told_none _ _ 655360 ((c)).requires) (decimal_short _) c.put_decimal-word.ensures in
     told-then (ascii " fields\n") 8 655332 (told_number) (omega arith) c.put-first.ensures
 
 pub returns-then-input-gt65536 : goal.returns-then-input-gt65536

@@ -19,7 +19,7 @@ pub returns-then-again-lt0 : goal.returns-then-again-lt0
 returns-then-again-lt0 c = prints_unreadable (by_value _ c.ranges.again c.if-again-lt0.true) c.put-length.ensures
 
 pub slice_bounds-list-end : goal.slice_bounds-list-end
-slice_bounds-list-end c = sym (length-take-le _ _ c.requires.1.0)
+slice_bounds-list-end c = sym (length-take-le _ _ c.requires.got_in_bounds)
 
 pub returns : goal.returns
-returns c = prints-listing c.requires.0 (by_value _ c.ranges.again c.if-again-lt0.false) c.list-length.ensures
+returns c = prints-listing c.requires.in_bounds (by_value _ c.ranges.again c.if-again-lt0.false) c.list-length.ensures

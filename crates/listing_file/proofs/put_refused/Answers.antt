@@ -27,14 +27,14 @@ start_2 c = (c)
 abbrev Stands : Start → List ℕ → ℕ → List ℕ → ℕ → Type 0
 Stands s = Told s.args.run.now 0
 
-told_1 : (c : After-put_refusal-told) → Stands (start_1 c) (text_1 (start_1 c)) 1 c.put_refusal-told.new.0 c.put_refusal-told.result
+told_1 : (c : After-put_refusal-told) → Stands (start_1 c) (text_1 (start_1 c)) 1 c.put_refusal-told.new.run c.put_refusal-told.result
 told_1 c =
     let s = start_1 c in
     told-then (refusal_text s.args.refusal) 52 1 (told_none _ _ 53 s.pre) (refusal_short s.args.refusal) c.put_refusal-told.ensures
 
-told_2 : (c : After-put) → Stands (start_2 c) (text_2 (start_2 c)) 0 c.put.new.0 c.put.result
+told_2 : (c : After-put) → Stands (start_2 c) (text_2 (start_2 c)) 0 c.put.new.run c.put.result
 told_2 c =
-    let told_1 : (Stands ((c)) (text_1 ((c))) 1 c.put_refusal-told.new.0 c.put_refusal-told.result) = let s = (c) in told-then (refusal_text s.args.refusal) 52 1 (told_none _ _ 53 s.pre) (refusal_short s.args.refusal) c.put_refusal-told.ensures in
+    let told_1 : (Stands ((c)) (text_1 ((c))) 1 c.put_refusal-told.new.run c.put_refusal-told.result) = let s = (c) in told-then (refusal_text s.args.refusal) 52 1 (told_none _ _ 53 s.pre) (refusal_short s.args.refusal) c.put_refusal-told.ensures in
     told-then (ascii "\n") 1 0 (told_1) (omega arith) c.put.ensures
 
 pub put-requires : goal.put-requires

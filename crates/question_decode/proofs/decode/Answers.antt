@@ -11,15 +11,12 @@ pub decode_judged-requires : goal.decode_judged-requires
 decode_judged-requires c =
     let a = c.args in
     let said = judged_values a.file.now a.k a.start (length a.values.now) (length a.presence.now) (sym c.judge_values.ensures ∙ c.in-As.is) in
-    (((a.k, said.0), said.2), said.1)
+    record { decodable = ((a.k, said.0), said.2); presence_value = said.1 }
 
 pub returns-in-As : goal.returns-in-As
 returns-in-As c =
     let a = c.args in
-    let outcome = ap (outcome_by a.file.now) (sym c.in-As.is ∙ c.judge_values.ensures) in (
-      ap Decoded.Points c.decode_judged.ensures.0 ∙ ap answer_of outcome,
-      (c.decode_judged.ensures.1.0 ∙ ap (values_after a.start a.values.now) outcome, c.decode_judged.ensures.1.1 ∙ ap (presence_after a.start a.presence.now) outcome),
-    )
+    let outcome = ap (outcome_by a.file.now) (sym c.in-As.is ∙ c.judge_values.ensures) in record { value = ap Decoded.Points c.decode_judged.ensures.value ∙ ap answer_of outcome; values_after = c.decode_judged.ensures.values_after ∙ ap (values_after a.start a.values.now) outcome; presence_after = c.decode_judged.ensures.presence_after ∙ ap (presence_after a.start a.presence.now) outcome }
 
 -- A question that is refused has that answer, and leaves both runs as they were.
 refuses : (c : In-Refused) →

@@ -12,7 +12,7 @@ use Rattle.question_decode.proofs.decode_judged.Goals.{After-points_of-points}
 use Rattle.question_decode.proofs.decode_judged.Goals as goal
 
 pub points_of-points-requires : goal.points_of-points-requires
-points_of-points-requires c = few_points c.args.file.now c.args.description c.requires.0.0
+points_of-points-requires c = few_points c.args.file.now c.args.description c.requires.decodable.0
 
 -- The stretch ends within both runs, and has as many elements as the field has points.
 fits : (c : After-points_of-points) →
@@ -21,7 +21,7 @@ fits : (c : After-points_of-points) →
     (end ≤ length a.values.now) × (end ≤ length a.presence.now) × (end - a.start ≡ points_of a.description.grid)
 fits c =
     let a = c.args in
-    omega (arith, room_fits a.start (points_of a.description.grid) (length a.values.now) (length a.presence.now) c.requires.1, c.points_of-points.ensures)
+    omega (arith, room_fits a.start (points_of a.description.grid) (length a.values.now) (length a.presence.now) c.requires.presence_value, c.points_of-points.ensures)
 
 pub overflow_add-end : goal.overflow_add-end
 overflow_add-end c = omega (arith, fits (goal.at.overflow_add-end c).After-points_of-points)
@@ -39,7 +39,7 @@ pub fill-requires : goal.fill-requires
 fill-requires c =
     let end = c.args.start + c.points_of-points.result in
     let f = fits (goal.at.fill-requires c).After-points_of-points in
-    (c.requires.0, (mid_len c.args.start end c.args.values.now f.0 ∙ f.2, mid_len c.args.start end c.args.presence.now f.1 ∙ f.2))
+    record { decodable = c.requires.decodable; stretch = (mid_len c.args.start end c.args.values.now f.0 ∙ f.2, mid_len c.args.start end c.args.presence.now f.1 ∙ f.2) }
 
 pub shape_of-values : goal.shape_of-values
 shape_of-values c = c.values-1.given.1
@@ -51,10 +51,4 @@ pub returns : goal.returns
 returns c =
     let a = c.args in
     let end = a.start + c.points_of-points.result in
-    let f = fits (goal.at.returns c).After-points_of-points in (
-      c.points_of-points.ensures,
-      (
-        values_laid a.file.now a.description a.start end f.2 a.values.now _ c.fill.ensures.0,
-        presence_laid a.file.now a.description a.start end f.2 a.presence.now _ c.fill.ensures.1,
-      ),
-    )
+    let f = fits (goal.at.returns c).After-points_of-points in record { value = c.points_of-points.ensures; values_after = values_laid a.file.now a.description a.start end f.2 a.values.now _ c.fill.ensures.values_after; presence_after = presence_laid a.file.now a.description a.start end f.2 a.presence.now _ c.fill.ensures.presence_after }

@@ -15,16 +15,16 @@ abbrev Begun : After-bitmap_in_force-bitmap → After-bitmap_in_force-bitmap
 Begun c = c
 
 pub packing_of-packing-requires : goal.packing_of-packing-requires
-packing_of-packing-requires c = scaled c.args.file.now c.args.description c.requires.0.0
+packing_of-packing-requires c = scaled c.args.file.now c.args.description c.requires.decodable.0
 
 pub octets_in-section-requires : goal.octets_in-section-requires
-octets_in-section-requires c = seven_lies c.args.file.now c.args.description c.requires.0.0
+octets_in-section-requires c = seven_lies c.args.file.now c.args.description c.requires.decodable.0
 
 pub points_of-requires : goal.points_of-requires
-points_of-requires c = few_points c.args.file.now c.args.description c.requires.0.0
+points_of-requires c = few_points c.args.file.now c.args.description c.requires.decodable.0
 
 pub bitmap_in_force-bitmap-requires : goal.bitmap_in_force-bitmap-requires
-bitmap_in_force-bitmap-requires c = rw c.points_of.ensures (bitmap_lies c.args.file.now c.args.description c.requires.0.0)
+bitmap_in_force-bitmap-requires c = rw c.points_of.ensures (bitmap_lies c.args.file.now c.args.description c.requires.decodable.0)
 
 -- The bitmap that is handed on, and the room that it and both runs are.
 marks : (c : After-bitmap_in_force-bitmap) → let s = Begun c in c.bitmap_in_force-bitmap.result.now ≡ bitmap s.args.file.now s.args.description s.pre.0.0

@@ -16,7 +16,7 @@ returns c =
     puts-four c.args.run.now c.args.at
     (map pos (d.category ∷ d.parameter ∷ d.process ∷ d.surface ∷ [])) (level_numbers d.level) (product_numbers d.product) (time_numbers d.valid)
     (omega (arith, c.requires, level_length d.level, product_length d.product))
-    (subst (λ (piece : List ℤ). Puts c.args.run.now c.args.at piece c.put-level.new.0 c.put-level.result)
+    (subst (λ (piece : List ℤ). Puts c.args.run.now c.args.at piece c.put-level.new.run c.put-level.result)
     (λ i. to_z_pos w64 (cast-t12 c).sfits i ∷ to_z_pos w64 (cast-t13 c).sfits i ∷ to_z_pos w64 (cast-t14 c).sfits i ∷ to_z_pos w64 (cast-t15 c).sfits i ∷ [])
     c.put-level.ensures)
     (rw c.level_numbers.ensures at c.put-product.ensures)

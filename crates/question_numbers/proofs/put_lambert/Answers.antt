@@ -23,5 +23,5 @@ returns-in-Degrees c =
 
 pub returns-in-Lambert : goal.returns-in-Lambert
 returns-in-Lambert c =
-    subst (λ (g : Grid). Puts c.args.run.now c.args.at (lambert_numbers g) c.put.new.0 c.put.result) (sym c.in-Lambert.is)
+    subst (λ (g : Grid). Puts c.args.run.now c.args.at (lambert_numbers g) c.put.new.run c.put.result) (sym c.in-Lambert.is)
     (rw c.lambert_numbers.ensures at c.put.ensures)

@@ -61,7 +61,7 @@ returns c =
     (omega (arith, c.requires, field_length d))
     c.put_field-representation.ensures
     (rw c.representation_numbers.ensures at c.put-presence.ensures)
-    (subst (λ (piece : List ℤ). Puts c.put-presence.new.0 c.put-presence.result piece c.put-starts.new.0 c.put-starts.result)
+    (subst (λ (piece : List ℤ). Puts c.put-presence.new.run c.put-presence.result piece c.put-starts.new.run c.put-starts.result)
     (λ i. (to_z-of_z {w = w64} (record { sfits = indicator.type-inv }) ∙ indicator.ensures) i ∷ [])
     c.put-starts.ensures)
     (rw c.start_numbers.ensures at c.put.ensures)

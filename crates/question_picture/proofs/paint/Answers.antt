@@ -49,7 +49,7 @@ paint_simple-requires c =
     let d = s.args.description in
     let e = c.in-Simple.is in
     rw (c.octets_in-section.ensures, c.scale_of-scale.ensures, marks (goal.at.paint_simple-requires c).After-bitmap_in_force-bitmap)
-    ((bits_fit file d s.pre.0, canvas (goal.at.paint_simple-requires c).After-bitmap_in_force-bitmap), (scale_scaled s.args.largest (largest_ranges file d s.pre.0 s.pre.1), sizes_below file d s.pre.0 s.pre.1 _ (simple_size file d s.pre.0 e)))
+    (record { bits_bound = (bits_fit file d s.pre.0, canvas (goal.at.paint_simple-requires c).After-bitmap_in_force-bitmap); scaled_to = (scale_scaled s.args.largest (largest_ranges file d s.pre.0 s.pre.1), sizes_below file d s.pre.0 s.pre.1 _ (simple_size file d s.pre.0 e)) })
 
 pub paint_complex-requires : goal.paint_complex-requires
 paint_complex-requires c =
@@ -57,10 +57,7 @@ paint_complex-requires c =
     let file = s.args.file.now in
     let d = s.args.description in
     let e = c.in-Complex.is in
-    rw (c.octets_in-section.ensures, c.scale_of-scale.ensures, marks (goal.at.paint_complex-requires c).After-bitmap_in_force-bitmap) (
-      (groups_sound file d s.pre.0 e, groups_decodable file d s.pre.0 e ∙ (largest_told file d s.pre.0 s.pre.1).0, sym (groups_values file d s.pre.0 e), canvas (goal.at.paint_complex-requires c).After-bitmap_in_force-bitmap),
-      (scale_scaled s.args.largest (largest_ranges file d s.pre.0 s.pre.1), sizes_below file d s.pre.0 s.pre.1 _ (groups_size file d s.pre.0 e)),
-    )
+    rw (c.octets_in-section.ensures, c.scale_of-scale.ensures, marks (goal.at.paint_complex-requires c).After-bitmap_in_force-bitmap) (record { sound = (groups_sound file d s.pre.0 e, groups_decodable file d s.pre.0 e ∙ (largest_told file d s.pre.0 s.pre.1).0, sym (groups_values file d s.pre.0 e), canvas (goal.at.paint_complex-requires c).After-bitmap_in_force-bitmap); scaled_to = (scale_scaled s.args.largest (largest_ranges file d s.pre.0 s.pre.1), sizes_below file d s.pre.0 s.pre.1 _ (groups_size file d s.pre.0 e)) })
 
 pub returns-in-Simple : goal.returns-in-Simple
 returns-in-Simple c =

@@ -11,10 +11,10 @@ pub returns-in-As : goal.returns-in-As
 returns-in-As c =
     let a = c.args in
     let drawn = ap (drawing_by a.file.now (length a.run.now)) (sym c.in-As.is ∙ c.describe.ensures) in
-    (c.picture_asked.ensures.0 ∙ ap pictured_by drawn, c.picture_asked.ensures.1 ∙ ap (run_after a.run.now) drawn)
+    record { value = c.picture_asked.ensures.value ∙ ap pictured_by drawn; run_after = c.picture_asked.ensures.run_after ∙ ap (run_after a.run.now) drawn }
 
 pub returns-in-Refused : goal.returns-in-Refused
 returns-in-Refused c =
     let a = c.args in
     let drawn = ap (drawing_by a.file.now (length a.run.now)) (sym c.in-Refused.is ∙ c.describe.ensures) in
-    (ap pictured_by drawn, ap (run_after a.run.now) drawn)
+    record { value = ap pictured_by drawn; run_after = ap (run_after a.run.now) drawn }

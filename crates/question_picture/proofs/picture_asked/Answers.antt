@@ -43,7 +43,7 @@ pub returns-then-run-end : goal.returns-then-run-end
 returns-then-run-end c =
     let a = (Begun (goal.at.returns-then-run-end c).After-points_of).args in
     let drawn = asked_cramped a.file.now (length a.run.now) a.description (omega (arith, places (goal.at.returns-then-run-end c).After-points_of, c.if-run-end.true)) in
-    (c.refused.ensures ∙ ap pictured_by drawn, ap (run_after a.run.now) drawn)
+    record { value = c.refused.ensures ∙ ap pictured_by drawn; run_after = ap (run_after a.run.now) drawn }
 
 -- Where the run is not too short, the picture fits.
 fits : (c : Else-run-end) → let a = ((c)).args in picture_length (frame_of a.description.grid) ≤ length a.run.now
@@ -56,7 +56,7 @@ returns-in_default c =
     let a = (Begun (goal.at.returns-in_default c).After-points_of).args in
     let outside = none_largest a.file.now (length a.run.now) a.description (sym c.in_default.is ∙ c.largest_of.ensures) in
     let drawn = asked_outside a.file.now (length a.run.now) a.description (fits (goal.at.returns-in_default c).Else-run-end) outside in
-    (c.refused-in_default.ensures ∙ ap pictured_by drawn, ap (run_after a.run.now) drawn)
+    record { value = c.refused-in_default.ensures ∙ ap pictured_by drawn; run_after = ap (run_after a.run.now) drawn }
 
 pub put_header-first-requires : goal.put_header-first-requires
 put_header-first-requires c =
@@ -67,9 +67,9 @@ put_header-first-requires c =
 -- The lines end where the greys begin, in a run that is as long as it was.
 lines_put : (c : After-put_header-first) →
     let a = ((c)).args in
-    Puts a.run.now 0 (header (frame_of a.description.grid)) c.put_header-first.new.0 c.put_header-first.result
+    Puts a.run.now 0 (header (frame_of a.description.grid)) c.put_header-first.new.run c.put_header-first.result
     × (c.put_header-first.result ≡ length (header (frame_of a.description.grid)))
-    × (length c.put_header-first.new.0 ≡ length a.run.now)
+    × (length c.put_header-first.new.run ≡ length a.run.now)
 lines_put c =
     let put = rw c.frame_of-frame.ensures at c.put_header-first.ensures in
     (put, omega (arith, put.1), omega (arith, c.put_header-first.auto))
@@ -87,9 +87,9 @@ paint-requires c =
     let s = Begun (goal.at.paint-requires c).After-points_of in
     let first = c.put_header-first.result in
     let end = c.header_length.result + c.points_of.result in
-    let inside : end ≤ length c.put_header-first.new.0 = omega (arith, (lines_put (goal.at.paint-requires c).After-put_header-first).2, c.if-run-end.false) in
+    let inside : end ≤ length c.put_header-first.new.run = omega (arith, (lines_put (goal.at.paint-requires c).After-put_header-first).2, c.if-run-end.false) in
     let many : end - first ≡ points_of s.args.description.grid = omega (arith, (lines_put (goal.at.paint-requires c).After-put_header-first).1, places (goal.at.paint-requires c).After-points_of) in
-    (s.pre, sym c.largest_of.ensures ∙ c.in-Is.is, mid_len first end c.put_header-first.new.0 inside ∙ many)
+    (s.pre, sym c.largest_of.ensures ∙ c.in-Is.is, mid_len first end c.put_header-first.new.run inside ∙ many)
 
 pub overflow_cast-result : goal.overflow_cast-result
 overflow_cast-result c = omega (arith, places (goal.at.overflow_cast-result c).After-points_of)
@@ -106,9 +106,6 @@ returns c =
     let first = c.put_header-first.result in
     let end = c.header_length.result + c.points_of.result in
     let size : length greys ≡ points_of d.grid = row_length _ (points_of d.grid) in
-    let painted = part_laid first end c.put_header-first.new.0 _ greys c.paint.ensures (omega (arith, size, (lines_put (goal.at.returns c).After-put_header-first).1, places (goal.at.returns c).After-points_of)) in
+    let painted = part_laid first end c.put_header-first.new.run _ greys c.paint.ensures (omega (arith, size, (lines_put (goal.at.returns c).After-put_header-first).1, places (goal.at.returns c).After-points_of)) in
     let told = largest_told a.file.now d (Begun (goal.at.returns c).After-points_of).requires (sym c.largest_of.ensures ∙ c.in-Is.is) in
-    let drawn = asked_drawn a.file.now (length a.run.now) d (fits (goal.at.returns c).Else-run-end) told.0 in (
-      ap Pictured.Octets (omega (arith, places (goal.at.returns c).After-points_of)) ∙ ap pictured_by drawn,
-      laid_drawn a.run.now lines greys (omega (arith, size, fits (goal.at.returns c).Else-run-end)) (lines_put (goal.at.returns c).After-put_header-first).0 painted ∙ ap (run_after a.run.now) drawn,
-    )
+    let drawn = asked_drawn a.file.now (length a.run.now) d (fits (goal.at.returns c).Else-run-end) told.0 in record { value = ap Pictured.Octets (omega (arith, places (goal.at.returns c).After-points_of)) ∙ ap pictured_by drawn; run_after = laid_drawn a.run.now lines greys (omega (arith, size, fits (goal.at.returns c).Else-run-end)) (lines_put (goal.at.returns c).After-put_header-first).0 painted ∙ ap (run_after a.run.now) drawn }

@@ -55,31 +55,31 @@ left_2 s = length (decimal s.args.frame.ni) + left_3 s
 abbrev Stands : Start → List ℕ → ℕ → List ℕ → ℕ → Type 0
 Stands s = Told s.args.run.now 0
 
-told_1 : (c : After-put-kind) → Stands (start_1 c) text_1 (left_2 (start_1 c)) c.put-kind.new.0 c.put-kind.result
+told_1 : (c : After-put-kind) → Stands (start_1 c) text_1 (left_2 (start_1 c)) c.put-kind.new.run c.put-kind.result
 told_1 c =
     let s = start_1 c in
     told-then (ascii "P5\n") 3 (left_2 s) (told_none _ _ (3 + left_2 s) (omega (arith, s.pre.2, header_long s.args.frame))) (omega arith) c.put-kind.ensures
 
-told_2 : (c : After-put_short-columns) → Stands (start_2 c) (text_2 (start_2 c)) (left_3 (start_2 c)) c.put_short-columns.new.0 c.put_short-columns.result
+told_2 : (c : After-put_short-columns) → Stands (start_2 c) (text_2 (start_2 c)) (left_3 (start_2 c)) c.put_short-columns.new.run c.put_short-columns.result
 told_2 c =
-    let told_1 : (Stands ((c)) text_1 (left_2 ((c))) c.put-kind.new.0 c.put-kind.result) = let s = (c) in told-then (ascii "P5\n") 3 (left_2 s) (told_none _ _ (3 + left_2 s) (omega (arith, s.pre.2, header_long s.args.frame))) (omega arith) c.put-kind.ensures in
+    let told_1 : (Stands ((c)) text_1 (left_2 ((c))) c.put-kind.new.run c.put-kind.result) = let s = (c) in told-then (ascii "P5\n") 3 (left_2 s) (told_none _ _ (3 + left_2 s) (omega (arith, s.pre.2, header_long s.args.frame))) (omega arith) c.put-kind.ensures in
     let digits = decimal (start_2 c).args.frame.ni in
     told-then digits (length digits) (left_3 (start_2 c)) (told_1) (omega arith) c.put_short-columns.ensures
 
-told_3 : (c : After-put-space) → Stands (start_3 c) (text_3 (start_3 c)) (left_4 (start_3 c)) c.put-space.new.0 c.put-space.result
+told_3 : (c : After-put-space) → Stands (start_3 c) (text_3 (start_3 c)) (left_4 (start_3 c)) c.put-space.new.run c.put-space.result
 told_3 c =
-    let told_2 : (Stands (((c))) (text_2 (((c)))) (left_3 (((c)))) c.put_short-columns.new.0 c.put_short-columns.result) = let told_1 : (Stands ((c)) text_1 (left_2 ((c))) c.put-kind.new.0 c.put-kind.result) = let s = (c) in told-then (ascii "P5\n") 3 (left_2 s) (told_none _ _ (3 + left_2 s) (omega (arith, s.pre.2, header_long s.args.frame))) (omega arith) c.put-kind.ensures in let digits = decimal (((c))).args.frame.ni in told-then digits (length digits) (left_3 (((c)))) (told_1) (omega arith) c.put_short-columns.ensures in
+    let told_2 : (Stands (((c))) (text_2 (((c)))) (left_3 (((c)))) c.put_short-columns.new.run c.put_short-columns.result) = let told_1 : (Stands ((c)) text_1 (left_2 ((c))) c.put-kind.new.run c.put-kind.result) = let s = (c) in told-then (ascii "P5\n") 3 (left_2 s) (told_none _ _ (3 + left_2 s) (omega (arith, s.pre.2, header_long s.args.frame))) (omega arith) c.put-kind.ensures in let digits = decimal (((c))).args.frame.ni in told-then digits (length digits) (left_3 (((c)))) (told_1) (omega arith) c.put_short-columns.ensures in
     told-then (ascii " ") 1 (left_4 (start_3 c)) (told_2) (omega arith) c.put-space.ensures
 
-told_4 : (c : After-put_short-rows) → Stands (start_4 c) (text_4 (start_4 c)) 5 c.put_short-rows.new.0 c.put_short-rows.result
+told_4 : (c : After-put_short-rows) → Stands (start_4 c) (text_4 (start_4 c)) 5 c.put_short-rows.new.run c.put_short-rows.result
 told_4 c =
-    let told_3 : (Stands ((((c)))) (text_3 ((((c))))) (left_4 ((((c))))) c.put-space.new.0 c.put-space.result) = let told_2 : (Stands (((c))) (text_2 (((c)))) (left_3 (((c)))) c.put_short-columns.new.0 c.put_short-columns.result) = let told_1 : (Stands ((c)) text_1 (left_2 ((c))) c.put-kind.new.0 c.put-kind.result) = let s = (c) in told-then (ascii "P5\n") 3 (left_2 s) (told_none _ _ (3 + left_2 s) (omega (arith, s.pre.2, header_long s.args.frame))) (omega arith) c.put-kind.ensures in let digits = decimal (((c))).args.frame.ni in told-then digits (length digits) (left_3 (((c)))) (told_1) (omega arith) c.put_short-columns.ensures in told-then (ascii " ") 1 (left_4 ((((c))))) (told_2) (omega arith) c.put-space.ensures in
+    let told_3 : (Stands ((((c)))) (text_3 ((((c))))) (left_4 ((((c))))) c.put-space.new.run c.put-space.result) = let told_2 : (Stands (((c))) (text_2 (((c)))) (left_3 (((c)))) c.put_short-columns.new.run c.put_short-columns.result) = let told_1 : (Stands ((c)) text_1 (left_2 ((c))) c.put-kind.new.run c.put-kind.result) = let s = (c) in told-then (ascii "P5\n") 3 (left_2 s) (told_none _ _ (3 + left_2 s) (omega (arith, s.pre.2, header_long s.args.frame))) (omega arith) c.put-kind.ensures in let digits = decimal (((c))).args.frame.ni in told-then digits (length digits) (left_3 (((c)))) (told_1) (omega arith) c.put_short-columns.ensures in told-then (ascii " ") 1 (left_4 ((((c))))) (told_2) (omega arith) c.put-space.ensures in
     let digits = decimal (start_4 c).args.frame.nj in
     told-then digits (length digits) 5 (told_3) (omega arith) c.put_short-rows.ensures
 
-told_5 : (c : After-put) → Stands (start_5 c) (text_5 (start_5 c)) 0 c.put.new.0 c.put.result
+told_5 : (c : After-put) → Stands (start_5 c) (text_5 (start_5 c)) 0 c.put.new.run c.put.result
 told_5 c =
-    let told_4 : (Stands (((((c))))) (text_4 (((((c)))))) 5 c.put_short-rows.new.0 c.put_short-rows.result) = let told_3 : (Stands ((((c)))) (text_3 ((((c))))) (left_4 ((((c))))) c.put-space.new.0 c.put-space.result) = let told_2 : (Stands (((c))) (text_2 (((c)))) (left_3 (((c)))) c.put_short-columns.new.0 c.put_short-columns.result) = let told_1 : (Stands ((c)) text_1 (left_2 ((c))) c.put-kind.new.0 c.put-kind.result) = let s = (c) in told-then (ascii "P5\n") 3 (left_2 s) (told_none _ _ (3 + left_2 s) (omega (arith, s.pre.2, header_long s.args.frame))) (omega arith) c.put-kind.ensures in let digits = decimal (((c))).args.frame.ni in told-then digits (length digits) (left_3 (((c)))) (told_1) (omega arith) c.put_short-columns.ensures in told-then (ascii " ") 1 (left_4 ((((c))))) (told_2) (omega arith) c.put-space.ensures in let digits = decimal (((((c))))).args.frame.nj in told-then digits (length digits) 5 (told_3) (omega arith) c.put_short-rows.ensures in
+    let told_4 : (Stands (((((c))))) (text_4 (((((c)))))) 5 c.put_short-rows.new.run c.put_short-rows.result) = let told_3 : (Stands ((((c)))) (text_3 ((((c))))) (left_4 ((((c))))) c.put-space.new.run c.put-space.result) = let told_2 : (Stands (((c))) (text_2 (((c)))) (left_3 (((c)))) c.put_short-columns.new.run c.put_short-columns.result) = let told_1 : (Stands ((c)) text_1 (left_2 ((c))) c.put-kind.new.run c.put-kind.result) = let s = (c) in told-then (ascii "P5\n") 3 (left_2 s) (told_none _ _ (3 + left_2 s) (omega (arith, s.pre.2, header_long s.args.frame))) (omega arith) c.put-kind.ensures in let digits = decimal (((c))).args.frame.ni in told-then digits (length digits) (left_3 (((c)))) (told_1) (omega arith) c.put_short-columns.ensures in told-then (ascii " ") 1 (left_4 ((((c))))) (told_2) (omega arith) c.put-space.ensures in let digits = decimal (((((c))))).args.frame.nj in told-then digits (length digits) 5 (told_3) (omega arith) c.put_short-rows.ensures in
     told-then (ascii "\n255\n") 5 0 (told_4) (omega arith) c.put.ensures
 
 pub put-kind-requires : goal.put-kind-requires

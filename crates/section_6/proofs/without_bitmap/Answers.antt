@@ -15,7 +15,7 @@ returns-in_default-bitmap c =
     simp (indicator (goal.at.returns-in_default-bitmap c).After-octet ∙ c.in-254.is, c.in_default-bitmap.is)
 
 pub is_bitmap-requires : goal.is_bitmap-requires
-is_bitmap-requires c = c.requires.1 _ c.in-At.is
+is_bitmap-requires c = c.requires.stored _ c.in-At.is
 
 pub returns-then-not-is_bitmap : goal.returns-then-not-is_bitmap
 returns-then-not-is_bitmap c =

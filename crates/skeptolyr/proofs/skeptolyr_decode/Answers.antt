@@ -11,11 +11,11 @@ pub code_of-requires : goal.code_of-requires
 code_of-requires c =
     let a = c.args in
     let near : Small (Decoded.Refused c.in-Refused.refusal) =
-    subst Small (sym c.decode.ensures.0 ∙ c.in-Refused.is) (decode_small a.file.now a.k a.start (length a.values.now) (length a.presence.now)) in
+    subst Small (sym c.decode.ensures.value ∙ c.in-Refused.is) (decode_small a.file.now a.k a.start (length a.values.now) (length a.presence.now)) in
     omega arith
 
 pub returns-in-Points : goal.returns-in-Points
-returns-in-Points c = (ap decode_code (sym c.in-Points.is ∙ c.decode.ensures.0), c.decode.ensures.1)
+returns-in-Points c = (ap decode_code (sym c.in-Points.is ∙ c.decode.ensures.value), c.decode.ensures.1)
 
 pub returns-in-Refused : goal.returns-in-Refused
-returns-in-Refused c = (c.code_of.ensures ∙ ap decode_code (sym c.in-Refused.is ∙ c.decode.ensures.0), c.decode.ensures.1)
+returns-in-Refused c = (c.code_of.ensures ∙ ap decode_code (sym c.in-Refused.is ∙ c.decode.ensures.value), c.decode.ensures.1)

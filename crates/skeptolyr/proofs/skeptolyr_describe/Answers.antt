@@ -34,10 +34,10 @@ returns-in-As c =
     let a = c.args in
     let put = c.put_description.ensures in
     let is = sym (said (goal.at.returns-in-As c).In-As) in
-    (put.1 ∙ zero-add (length (numbers_of c.in-As.description)) ∙ ap (λ x. numbers_code (described_as x)) is, put.0 ∙ ap (λ x. numbers_left a.numbers.now (described_as x)) is)
+    record { value = put.1 ∙ zero-add (length (numbers_of c.in-As.description)) ∙ ap (λ x. numbers_code (described_as x)) is; numbers_after = put.0 ∙ ap (λ x. numbers_left a.numbers.now (described_as x)) is }
 
 pub returns-in-Refused : goal.returns-in-Refused
 returns-in-Refused c =
     let a = c.args in
     let is = sym (sym c.judge_numbers.ensures ∙ c.in-Refused.is) in
-    (c.code_of.ensures ∙ ap (λ x. numbers_code (described_as x)) is, ap (λ x. numbers_left a.numbers.now (described_as x)) is)
+    record { value = c.code_of.ensures ∙ ap (λ x. numbers_code (described_as x)) is; numbers_after = ap (λ x. numbers_left a.numbers.now (described_as x)) is }

@@ -11,12 +11,12 @@ pub code_of-requires : goal.code_of-requires
 code_of-requires c =
     let a = c.args in
     let near : Modest (Pictured.Refused c.in-Refused.refusal) =
-    subst Modest (sym c.picture.ensures.0 ∙ c.in-Refused.is) (picture_modest a.file.now a.k (length a.picture.now)) in
+    subst Modest (sym c.picture.ensures.value ∙ c.in-Refused.is) (picture_modest a.file.now a.k (length a.picture.now)) in
     omega arith
 
 pub returns-in-Octets : goal.returns-in-Octets
-returns-in-Octets c = (ap picture_code (sym c.in-Octets.is ∙ c.picture.ensures.0), c.picture.ensures.1)
+returns-in-Octets c = record { value = ap picture_code (sym c.in-Octets.is ∙ c.picture.ensures.value); picture_after = c.picture.ensures.run_after }
 
 pub returns-in-Refused : goal.returns-in-Refused
 returns-in-Refused c =
-    (c.code_of.ensures ∙ ap picture_code (sym c.in-Refused.is ∙ c.picture.ensures.0), c.picture.ensures.1)
+    record { value = c.code_of.ensures ∙ ap picture_code (sym c.in-Refused.is ∙ c.picture.ensures.value); picture_after = c.picture.ensures.run_after }

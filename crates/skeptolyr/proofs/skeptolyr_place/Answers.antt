@@ -50,10 +50,10 @@ returns-in-Grid c =
     let a = c.args in
     let put = rw c.position_of-lies.ensures at c.put_position.ensures in
     let is = sym (said (goal.at.returns-in-Grid c).In-Grid) in
-    (put.1 ∙ ap (λ x. numbers_code (placed_as a.n x)) is, put.0 ∙ ap (λ x. numbers_left a.position.now (placed_as a.n x)) is)
+    record { value = put.1 ∙ ap (λ x. numbers_code (placed_as a.n x)) is; position_after = put.0 ∙ ap (λ x. numbers_left a.position.now (placed_as a.n x)) is }
 
 pub returns-in-Refused : goal.returns-in-Refused
 returns-in-Refused c =
     let a = c.args in
     let is = sym (sym c.on_degrees.ensures ∙ c.in-Refused.is) in
-    (c.code_of.ensures ∙ ap (λ x. numbers_code (placed_as a.n x)) is, ap (λ x. numbers_left a.position.now (placed_as a.n x)) is)
+    record { value = c.code_of.ensures ∙ ap (λ x. numbers_code (placed_as a.n x)) is; position_after = ap (λ x. numbers_left a.position.now (placed_as a.n x)) is }

@@ -50,10 +50,10 @@ returns-in-Grid c =
     let a = c.args in
     let put = rw c.sheet_of-lies.ensures at c.put_sheet.ensures in
     let is = sym (said (goal.at.returns-in-Grid c).In-Grid) in
-    (put.1 ∙ ap (λ x. numbers_code (sheet_as a.n x)) is, put.0 ∙ ap (λ x. numbers_left a.place.now (sheet_as a.n x)) is)
+    record { value = put.1 ∙ ap (λ x. numbers_code (sheet_as a.n x)) is; place_after = put.0 ∙ ap (λ x. numbers_left a.place.now (sheet_as a.n x)) is }
 
 pub returns-in-Refused : goal.returns-in-Refused
 returns-in-Refused c =
     let a = c.args in
     let is = sym (sym c.on_lambert.ensures ∙ c.in-Refused.is) in
-    (c.code_of.ensures ∙ ap (λ x. numbers_code (sheet_as a.n x)) is, ap (λ x. numbers_left a.place.now (sheet_as a.n x)) is)
+    record { value = c.code_of.ensures ∙ ap (λ x. numbers_code (sheet_as a.n x)) is; place_after = ap (λ x. numbers_left a.place.now (sheet_as a.n x)) is }

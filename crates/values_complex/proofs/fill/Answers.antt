@@ -30,10 +30,10 @@ lengths c =
 
 pub write-point-requires : goal.write-point-requires
 write-point-requires c =
-    (c.requires.1.1.0, ((omega arith, omega (arith, c.requires.1.1.1, c.requires.0.two_values, (ranked c.args.bitmap.now).none)), omega arith))
+    record { room = c.requires.room; points_left = ((omega arith, omega (arith, c.requires.groups_value, c.requires.sound.two_values, (ranked c.args.bitmap.now).none)), omega arith) }
 
 pub first_bit-bit-requires : goal.first_bit-bit-requires
-first_bit-bit-requires c = omega (arith, packed_low _ _ c.requires.0, starts_bounded _ _ c.requires.0)
+first_bit-bit-requires c = omega (arith, packed_low _ _ c.requires.sound, starts_bounded _ _ c.requires.sound)
 
 pub loop-i-init : goal.loop-i-init
 loop-i-init c =
@@ -54,7 +54,7 @@ loop-i-init c =
 
 pub group_at-met-requires : goal.group_at-met-requires
 group_at-met-requires c =
-    (((Entry (goal.at.group_at-met-requires c).After-first_bit-bit).pre.0, c.loop-i-test.true), c.loop-i.invariant.4.starts)
+    record { sound = ((Entry (goal.at.group_at-met-requires c).After-first_bit-bit).pre.0, c.loop-i-test.true); start_value = c.loop-i.invariant.4.starts }
 
 pub slice_bounds-write_group-end : goal.slice_bounds-write_group-end
 slice_bounds-write_group-end c = sym c.loop-i.invariant.3
@@ -69,16 +69,14 @@ write_group-reached-requires c =
     let passed = c.loop-i.invariant.4 in
     let long = lengths (goal.at.write_group-reached-requires c).At-loop-i in
     let room = next_room section groups s.pre.0 s.pre.1.0 (ranked bitmap) passed here in
-    rw c.group_at-met.ensures.0 (
-      (kept_limits section groups _ passed.kept here s.pre.0, next_kept section groups s.pre.0 s.pre.1.0 (ranked bitmap) passed here),
-      (
-        (
-          (omega (arith, long), omega (arith, long, s.pre.1.1.0.1), λ some. omega (arith, long, s.pre.1.1.0.2 some)),
-          (omega (arith, long, passed.written.within), omega (arith, room, s.pre.1.1.1, ap (marks_in bitmap).rank long.0)),
-        ),
-        c.loop-i.invariant.3,
-      ),
-    )
+    rw c.group_at-met.ensures.0 (record {
+      limits = (kept_limits section groups _ passed.kept here s.pre.0, next_kept section groups s.pre.0 s.pre.1.0 (ranked bitmap) passed here);
+      room = (
+        (omega (arith, long), omega (arith, long, s.pre.1.1.0.1), λ some. omega (arith, long, s.pre.1.1.0.2 some)),
+        (omega (arith, long, passed.written.within), omega (arith, room, s.pre.1.1.1, ap (marks_in bitmap).rank long.0)),
+      );
+      block_len = c.loop-i.invariant.3;
+    })
 
 pub loop-i-preserved : goal.loop-i-preserved
 loop-i-preserved c =
@@ -89,16 +87,13 @@ loop-i-preserved c =
       c.loop-i.invariant.2,
       omega (arith, c.write_group-reached.auto, c.loop-i.invariant.3),
       passed_more s.args.section.now s.args.groups s.pre.0 s.pre.1.0 (ranked s.args.bitmap.now) c.loop-i.invariant.4 c.loop-i-test.true
-          c.group_at-met.ensures.1 (rw group at c.write_group-reached.ensures.0) (rw group at c.write_group-reached.ensures.1),
+          c.group_at-met.ensures.1 (rw group at c.write_group-reached.ensures.group_goes) (rw group at c.write_group-reached.ensures.group_written),
     )
 
 pub clear_missing-requires : goal.clear_missing-requires
 clear_missing-requires c =
     let s = Entry (goal.at.clear_missing-requires c).After-first_bit-bit in
-    let long = lengths (goal.at.clear_missing-requires c).At-loop-i in (
-      (omega (arith, long), omega (arith, long, s.pre.1.1.0.1), λ some. omega (arith, long, s.pre.1.1.0.2 some)),
-      omega (arith, long, c.loop-i.invariant.4.written.within),
-    )
+    let long = lengths (goal.at.clear_missing-requires c).At-loop-i in record { room = (omega (arith, long), omega (arith, long, s.pre.1.1.0.1), λ some. omega (arith, long, s.pre.1.1.0.2 some)); point_in_bounds = omega (arith, long, c.loop-i.invariant.4.written.within) }
 
 pub shape_of-values : goal.shape_of-values
 shape_of-values c = omega (arith, c.clear_missing.auto, lengths (goal.at.shape_of-values c).At-loop-i)

@@ -9,28 +9,28 @@ use Rattle.values_complex.proofs.group_at.Goals as goal
 
 pub width_of-width-requires : goal.width_of-width-requires
 width_of-width-requires c =
-    let sound = c.requires.0.0 in
+    let sound = c.requires.sound.0 in
     omega (arith, starts_bounded _ _ sound, sound.limited)
 
 pub length_of-length-requires : goal.length_of-length-requires
 length_of-length-requires c =
-    let sound = c.requires.0.0 in
+    let sound = c.requires.sound.0 in
     omega (arith, starts_bounded _ _ sound, sound.limited)
 
 pub stored-reference-requires : goal.stored-reference-requires
 stored-reference-requires c =
-    let sound = c.requires.0.0 in
+    let sound = c.requires.sound.0 in
     omega (arith, starts_bounded _ _ sound, sound.limited)
 
 -- The values up to the end of the group are few.
 values : (c : After-length_of-length) → c.args.start.values + c.length_of-length.result ≤ 16777216
 values c =
-    rw (c.requires.1, c.length_of-length.ensures.0) (values_fit _ _ c.requires.0.0 c.requires.0.1)
+    rw (c.requires.start_value, c.length_of-length.ensures.0) (values_fit _ _ c.requires.sound.0 c.requires.sound.1)
 
 -- The place of the bit behind it is low.
 end : (c : After-length_of-length) → c.args.start.bit.0 + c.width_of-width.result * c.length_of-length.result < 2 ^ 40
 end c =
-    rw (c.requires.1, c.width_of-width.ensures, c.length_of-length.ensures.0) (omega (arith, end_low _ _ c.requires.0.0 c.requires.0.1))
+    rw (c.requires.start_value, c.width_of-width.ensures, c.length_of-length.ensures.0) (omega (arith, end_low _ _ c.requires.sound.0 c.requires.sound.1))
 
 -- No more is skipped than the group has, in values and in bits.
 skips : (c : After-skipped-skip) →
@@ -50,7 +50,7 @@ overflow_add-result c =
 
 pub overflow_add-result-2 : goal.overflow_add-result-2
 overflow_add-result-2 c =
-    omega (arith, c.stored-reference.ensures.1, c.raised_by.ensures, raised_within c.args.groups.differencing.zmin c.requires.0.0.zmin_fits)
+    omega (arith, c.stored-reference.ensures.1, c.raised_by.ensures, raised_within c.args.groups.differencing.zmin c.requires.sound.0.zmin_fits)
 
 pub overflow_sub-result : goal.overflow_sub-result
 overflow_sub-result c = omega (arith, skips (goal.at.overflow_sub-result c).After-skipped-skip)
@@ -71,6 +71,6 @@ returns c =
     let length = c.length_of-length.ensures.0 in
     let reference = c.stored-reference.ensures.0 in
     let skip = c.skipped-skip.ensures in (
-      rw (skip, c.requires.1, width, length, reference, c.raised_by.ensures, c.before.Lowered-by.ensures),
-      rw (c.requires.1, width, length) (sym (start_more a.section.now a.groups a.i)),
+      rw (skip, c.requires.start_value, width, length, reference, c.raised_by.ensures, c.before.Lowered-by.ensures),
+      rw (c.requires.start_value, width, length) (sym (start_more a.section.now a.groups a.i)),
     )

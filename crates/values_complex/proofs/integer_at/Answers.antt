@@ -34,7 +34,7 @@ overflow_sub-m c = omega (arith, behind (goal.at.overflow_sub-m c).Else-differen
 
 pub worked_to-requires : goal.worked_to-requires
 worked_to-requires c =
-    ((c.requires.0, omega (arith, c.requires.1, behind (goal.at.worked_to-requires c).Else-differencing-gt2147483647-2)), (c.if-differencing-gt2147483647.false, c.if-differencing-gt2147483647-2.false))
+    record { sound = (c.requires.0, omega (arith, c.requires.1, behind (goal.at.worked_to-requires c).Else-differencing-gt2147483647-2)); first_bound = (c.if-differencing-gt2147483647.false, c.if-differencing-gt2147483647-2.false) }
 
 pub overflow_cast-result : goal.overflow_cast-result
 overflow_cast-result c =

@@ -26,7 +26,7 @@ overflow_sub-n c = omega (arith, two (goal.at.overflow_sub-n c).Start)
 
 pub worked_to-requires : goal.worked_to-requires
 worked_to-requires c =
-    ((c.requires.0, omega (arith, c.requires.1, two (goal.at.worked_to-requires c).Start)), (c.if-differencing-gt2147483647.false, c.if-differencing-gt2147483647-2.false))
+    record { sound = (c.requires.0, omega (arith, c.requires.1, two (goal.at.worked_to-requires c).Start)); first_bound = (c.if-differencing-gt2147483647.false, c.if-differencing-gt2147483647-2.false) }
 
 -- All are in their range exactly where the last is kept.
 decided : (c : After-worked_to) →

@@ -17,11 +17,11 @@ abbrev Begun : In-loop-left → In-loop-left
 Begun c = c
 
 pub first_bit-bit-requires : goal.first_bit-bit-requires
-first_bit-bit-requires c = omega (arith, starts_bounded _ _ c.requires.0.0)
+first_bit-bit-requires c = omega (arith, starts_bounded _ _ c.requires.sound.0)
 
 pub loop-left-init : goal.loop-left-init
 loop-left-init c =
-    working_none c.args.section.now c.args.groups c.args.wanted c.requires.1.0 c.requires.1.1 c.first_bit-bit.ensures
+    working_none c.args.section.now c.args.groups c.args.wanted c.requires.first_bound.0 c.requires.first_bound.1 c.first_bit-bit.ensures
 
 -- Some integers are left, so there is a group.
 inside : (c : In-loop-left) → c.loop-left.i < (Begun c).args.groups.grouping.groups
@@ -31,7 +31,7 @@ inside c =
 
 pub group_at-met-requires : goal.group_at-met-requires
 group_at-met-requires c =
-    (((Begun (goal.at.group_at-met-requires c).In-loop-left).requires.0.0, inside (goal.at.group_at-met-requires c).In-loop-left), (c.loop-left.invariant.next c.loop-left-test.true).1)
+    record { sound = ((Begun (goal.at.group_at-met-requires c).In-loop-left).requires.0.0, inside (goal.at.group_at-met-requires c).In-loop-left); start_value = (c.loop-left.invariant.next c.loop-left-test.true).1 }
 
 -- The group that is judged: the first numbers of group i.
 first : (c : After-first_of-group) →

@@ -22,13 +22,13 @@ unfolding worked_by
 loop-done-init c =
     let a = c.args in (
       omega arith,
-      c.requires.1.1,
-      c.requires.1.0.1.0,
+      c.requires.block_len,
+      c.requires.room.1.0,
       refl,
       refl,
       refl,
       written_none (marks_in a.bitmap.now) (ranked a.bitmap.now).more a.packing (integers_of a.section.now a.group (latest_of a.reached)) a.reached.point (runs a.values.now a.presence.now)
-          c.requires.1.0.1.0,
+          c.requires.room.1.0,
     )
 
 pub overflow_sub-group : goal.overflow_sub-group
@@ -56,30 +56,27 @@ pub unpack-latest-requires : goal.unpack-latest-requires
 unpack-latest-requires c =
     let l = c.loop-done in
     let a = c.args in
-    let inside : l.done + c.block_length-n.result ≤ a.group.count = omega (arith, (few (goal.at.unpack-latest-requires c).After-block_length-n).0, l.invariant.0) in (
-      (limits_on a.section.now a.group a.reached.x a.reached.before l.done l.invariant.5 c.requires.0.0, rw (lent_part (goal.at.unpack-latest-requires c).After-block_length-n) inside),
-      rw (lent_part (goal.at.unpack-latest-requires c).After-block_length-n) (next_kept a.section.now a.group a.reached.x a.reached.before l.done l.invariant.5 c.requires.0.0 c.requires.0.1 c.block_length-n.result inside),
-    )
+    let inside : l.done + c.block_length-n.result ≤ a.group.count = omega (arith, (few (goal.at.unpack-latest-requires c).After-block_length-n).0, l.invariant.0) in record { limits = (limits_on a.section.now a.group a.reached.x a.reached.before l.done l.invariant.5 c.requires.limits.0, rw (lent_part (goal.at.unpack-latest-requires c).After-block_length-n) inside); group_kept = rw (lent_part (goal.at.unpack-latest-requires c).After-block_length-n) (next_kept a.section.now a.group a.reached.x a.reached.before l.done l.invariant.5 c.requires.limits.0 c.requires.limits.1 c.block_length-n.result inside) }
 
 -- The block comes back with the next integers, as long as it was.
-unpacked : (c : After-unpack-latest) → length c.unpack-latest.new.1.1.1.0 ≡ c.block_length-n.result
+unpacked : (c : After-unpack-latest) → length c.unpack-latest.new.block ≡ c.block_length-n.result
 unpacked c =
     let lent_part : (length (take (c.block_length-n.result - 0) c.loop-done.block) ≡ c.block_length-n.result) = let few : (let l = c.loop-done in let n = c.block_length-n.result in (n ≤ c.args.group.count - l.done) × (n ≤ 56) × (1 ≤ n)) = let l = c.loop-done in let g = c.args.group in block_within (g.count - l.done) c.block_length-n.ensures (omega (arith, c.loop-done-test.true)) in let l = c.loop-done in part_length l.block (omega (arith, (few).1, l.invariant.1)) in
     let l = c.loop-done in
     let a = c.args in
-    ap length c.unpack-latest.ensures.1 ∙ row_length (integers_of a.section.now (behind a.group l.done) l.latest) (length (take (c.block_length-n.result - 0) l.block)) ∙ lent_part
+    ap length c.unpack-latest.ensures.block_after ∙ row_length (integers_of a.section.now (behind a.group l.done) l.latest) (length (take (c.block_length-n.result - 0) l.block)) ∙ lent_part
 
 whole_block : (c : After-unpack-latest) →
-    length (put_mid 0 (c.block_length-n.result - 0) c.loop-done.block c.unpack-latest.new.1.1.1.0) ≡ 56
+    length (put_mid 0 (c.block_length-n.result - 0) c.loop-done.block c.unpack-latest.new.block) ≡ 56
 whole_block c =
     let lent_part : (length (take (c.block_length-n.result - 0) c.loop-done.block) ≡ c.block_length-n.result) = let few : (let l = c.loop-done in let n = c.block_length-n.result in (n ≤ c.args.group.count - l.done) × (n ≤ 56) × (1 ≤ n)) = let l = c.loop-done in let g = c.args.group in block_within (g.count - l.done) c.block_length-n.ensures (omega (arith, c.loop-done-test.true)) in let l = c.loop-done in part_length l.block (omega (arith, (few).1, l.invariant.1)) in
     let l = c.loop-done in
-    same_len_mid 0 (c.block_length-n.result - 0) l.block c.unpack-latest.new.1.1.1.0 (unpacked c ∙ sym (lent_part)) ∙ l.invariant.1
+    same_len_mid 0 (c.block_length-n.result - 0) l.block c.unpack-latest.new.block (unpacked c ∙ sym (lent_part)) ∙ l.invariant.1
 
 part_here : (c : After-unpack-latest) →
-    take (c.block_length-n.result - 0) (put_mid 0 (c.block_length-n.result - 0) c.loop-done.block c.unpack-latest.new.1.1.1.0) ≡ c.unpack-latest.new.1.1.1.0
+    take (c.block_length-n.result - 0) (put_mid 0 (c.block_length-n.result - 0) c.loop-done.block c.unpack-latest.new.block) ≡ c.unpack-latest.new.block
 part_here c =
-    part_back c.loop-done.block c.unpack-latest.new.1.1.1.0 (unpacked c)
+    part_back c.loop-done.block c.unpack-latest.new.block (unpacked c)
 
 pub slice_bounds-write-end : goal.slice_bounds-write-end
 slice_bounds-write-end c =
@@ -88,18 +85,15 @@ slice_bounds-write-end c =
 pub write-point-requires : goal.write-point-requires
 write-point-requires c =
     let l = c.loop-done in
-    let part : length (take (c.block_length-n.result - 0) (put_mid 0 (c.block_length-n.result - 0) l.block c.unpack-latest.new.1.1.1.0)) ≡ c.block_length-n.result = ap length (part_here (goal.at.write-point-requires c).After-unpack-latest) ∙ unpacked (goal.at.write-point-requires c).After-unpack-latest in
-    let room = c.requires.1.0.0 in
-    let left = c.requires.1.0.1.1 in
-    let all = ap (marks_in c.args.bitmap.now).rank l.invariant.3 in (
-      (omega (arith, l.invariant.3, l.invariant.4, room.0), omega (arith, l.invariant.3, room.1), λ some. omega (arith, l.invariant.3, room.2 some)),
-      ((omega (arith, l.invariant.2, l.invariant.3), omega (arith, part, (few (goal.at.write-point-requires c).After-block_length-n).0, l.invariant.0, l.invariant.6.past.used, left, all)), omega (arith, part, (few (goal.at.write-point-requires c).After-block_length-n).1)),
-    )
+    let part : length (take (c.block_length-n.result - 0) (put_mid 0 (c.block_length-n.result - 0) l.block c.unpack-latest.new.block)) ≡ c.block_length-n.result = ap length (part_here (goal.at.write-point-requires c).After-unpack-latest) ∙ unpacked (goal.at.write-point-requires c).After-unpack-latest in
+    let room = c.requires.room.0 in
+    let left = c.requires.room.1.1 in
+    let all = ap (marks_in c.args.bitmap.now).rank l.invariant.3 in record { room = (omega (arith, l.invariant.3, l.invariant.4, room.0), omega (arith, l.invariant.3, room.1), λ some. omega (arith, l.invariant.3, room.2 some)); points_left = ((omega (arith, l.invariant.2, l.invariant.3), omega (arith, part, (few (goal.at.write-point-requires c).After-block_length-n).0, l.invariant.0, l.invariant.6.past.used, left, all)), omega (arith, part, (few (goal.at.write-point-requires c).After-block_length-n).1)) }
 
 pub overflow_add-done : goal.overflow_add-done
 overflow_add-done c =
     let l = c.loop-done in
-    omega (arith, (few (goal.at.overflow_add-done c).After-block_length-n).0, (few (goal.at.overflow_add-done c).After-block_length-n).1, l.invariant.0, c.requires.0.0.of_count)
+    omega (arith, (few (goal.at.overflow_add-done c).After-block_length-n).0, (few (goal.at.overflow_add-done c).After-block_length-n).1, l.invariant.0, c.requires.limits.0.of_count)
 
 pub loop-done-smaller : goal.loop-done-smaller
 loop-done-smaller c =
@@ -113,12 +107,12 @@ loop-done-preserved c =
     let n = c.block_length-n.result in
     let run = a.section.now in
     let x = integers_of run a.group (latest_of a.reached) in
-    let part = c.unpack-latest.new.1.1.1.0 in
+    let part = c.unpack-latest.new.block in
     let inside : l.done + n ≤ a.group.count = omega (arith, (few (goal.at.loop-done-preserved c).After-block_length-n).0, l.invariant.0) in
-    let goes = rw (lent_part (goal.at.loop-done-preserved c).After-block_length-n) at c.unpack-latest.ensures.0 in
-    let filled = rw (lent_part (goal.at.loop-done-preserved c).After-block_length-n) at c.unpack-latest.ensures.1 in
+    let goes = rw (lent_part (goal.at.loop-done-preserved c).After-block_length-n) at c.unpack-latest.ensures.group_goes in
+    let filled = rw (lent_part (goal.at.loop-done-preserved c).After-block_length-n) at c.unpack-latest.ensures.block_after in
     let written = rw (part_here (goal.at.loop-done-preserved c).After-unpack-latest, unpacked (goal.at.loop-done-preserved c).After-unpack-latest) at c.write-point.ensures in
-    let same = block_integers run a.group a.reached.x a.reached.before l.done l.invariant.5 c.requires.0.0 c.requires.0.1 n part inside filled in (
+    let same = block_integers run a.group a.reached.x a.reached.before l.done l.invariant.5 c.requires.limits.0 c.requires.limits.1 n part inside filled in (
       inside,
       whole_block (goal.at.loop-done-preserved c).After-unpack-latest,
       omega (arith, written.past.within, l.invariant.3),
@@ -129,7 +123,7 @@ loop-done-preserved c =
     )
 
 pub shape_of-block : goal.shape_of-block
-shape_of-block c = c.loop-done.invariant.1 ∙ sym c.requires.1.1
+shape_of-block c = c.loop-done.invariant.1 ∙ sym c.requires.block_len
 
 pub shape_of-values : goal.shape_of-values
 shape_of-values c = c.loop-done.invariant.3
@@ -142,4 +136,4 @@ returns c =
     let l = c.loop-done in
     let a = c.args in
     let all : l.done ≡ a.group.count = omega (arith, l.invariant.0, c.loop-done-test.false) in
-    (rw all at l.invariant.5, rw all at l.invariant.6)
+    record { group_goes = rw all at l.invariant.5; group_written = rw all at l.invariant.6 }

@@ -16,24 +16,24 @@ use Rattle.values_greys.proofs.put_complex.Goals as goal
 
 pub grey_of-requires : goal.grey_of-requires
 grey_of-requires c =
-    grey_asked c.args.scale 0 c.requires.1 (first_size c.args.section.now c.args.groups) (omega (arith, c.requires.0.0.two_values))
+    grey_asked c.args.scale 0 c.requires.scaled_to (first_size c.args.section.now c.args.groups) (omega (arith, c.requires.sound.0.two_values))
 
 pub bounds-greys-0 : goal.bounds-greys-0
-bounds-greys-0 c = omega (arith, c.requires.0.0.two_values, c.requires.0.2)
+bounds-greys-0 c = omega (arith, c.requires.sound.0.two_values, c.requires.sound.2)
 
 pub grey_of-requires-2 : goal.grey_of-requires-2
 grey_of-requires-2 c =
-    grey_asked c.args.scale 1 c.requires.1 (second_size c.args.section.now c.args.groups) (omega (arith, c.requires.0.0.two_values))
+    grey_asked c.args.scale 1 c.requires.scaled_to (second_size c.args.section.now c.args.groups) (omega (arith, c.requires.sound.0.two_values))
 
 pub bounds-greys-1 : goal.bounds-greys-1
-bounds-greys-1 c = rw length-set (omega (arith, c.requires.0.0.two_values, c.requires.0.2))
+bounds-greys-1 c = rw length-set (omega (arith, c.requires.sound.0.two_values, c.requires.sound.2))
 
 pub first_bit-bit-requires : goal.first_bit-bit-requires
-first_bit-bit-requires c = omega (arith, packed_low _ _ c.requires.0.0, starts_bounded _ _ c.requires.0.0)
+first_bit-bit-requires c = omega (arith, packed_low _ _ c.requires.sound.0, starts_bounded _ _ c.requires.sound.0)
 
 pub loop-i-init : goal.loop-i-init
 loop-i-init c =
-    passed_none c.args.section.now c.args.groups c.args.scale c.requires.0.0 c.requires.0.1 _ c.first_bit-bit.ensures
+    passed_none c.args.section.now c.args.groups c.args.scale c.requires.sound.0 c.requires.sound.1 _ c.first_bit-bit.ensures
 
 -- The function's entry, from the loop.
 abbrev Entry : At-loop-i → At-loop-i
@@ -47,7 +47,7 @@ long c = let s = Entry c in rw (length-set, length-set) (sym s.pre.0.2)
 
 pub group_at-met-requires : goal.group_at-met-requires
 group_at-met-requires c =
-    (((Entry (goal.at.group_at-met-requires c).At-loop-i).requires.0.0, c.loop-i-test.true), c.loop-i.invariant.starts)
+    record { sound = ((Entry (goal.at.group_at-met-requires c).At-loop-i).requires.0.0, c.loop-i-test.true); start_value = c.loop-i.invariant.starts }
 
 -- The group's stretch lies in the run, which is not long.
 fits : (c : After-group-1) →
@@ -76,13 +76,7 @@ put_group-latest-requires c =
     let here = c.loop-i-test.true in
     let group = c.group_at-met.ensures.0 in
     let end = c.loop-i.done + c.group_at-met.result.group.count in
-    let part = mid_len c.loop-i.done end c.loop-i.greys (fits (goal.at.put_group-latest-requires c).After-group-1).0 in (
-      (rw group (kept_limits run a.groups _ p.kept here s.pre.0.0), omega (arith, part), omega (arith, part, (fits (goal.at.put_group-latest-requires c).After-group-1).1)),
-      (
-        rw group (next_kept run a.groups a.scale s.pre.0.0 s.pre.0.1 p here),
-        (s.pre.1.0, rw group (next_below run a.groups a.scale s.pre.0.0 s.pre.0.1 p here s.pre.1.1)),
-      ),
-    )
+    let part = mid_len c.loop-i.done end c.loop-i.greys (fits (goal.at.put_group-latest-requires c).After-group-1).0 in record { limits = (rw group (kept_limits run a.groups _ p.kept here s.pre.0.0), omega (arith, part), omega (arith, part, (fits (goal.at.put_group-latest-requires c).After-group-1).1)); group_kept = rw group (next_kept run a.groups a.scale s.pre.0.0 s.pre.0.1 p here); scaled_to = (s.pre.1.0, rw group (next_below run a.groups a.scale s.pre.0.0 s.pre.0.1 p here s.pre.1.1)) }
 
 pub loop-i-preserved : goal.loop-i-preserved
 loop-i-preserved c =
@@ -91,7 +85,7 @@ loop-i-preserved c =
     let group = c.group_at-met.ensures.0 in
     rw group (
     passed_more a.section.now a.groups a.scale s.pre.0.0 s.pre.0.1 c.loop-i.invariant c.loop-i-test.true (long (goal.at.loop-i-preserved c).At-loop-i) c.group_at-met.ensures.1
-    (rw group at c.put_group-latest.ensures.0) (rw group at c.put_group-latest.ensures.1)
+    (rw group at c.put_group-latest.ensures.group_goes) (rw group at c.put_group-latest.ensures.greys_after)
     )
 
 pub shape_of-greys : goal.shape_of-greys

@@ -17,7 +17,7 @@ use Rattle.values_greys.proofs.put_fours.Goals.{After-take_four-taken, In-loop-i
 use Rattle.values_greys.proofs.put_fours.Goals as goal
 
 pub overflow_mul-end : goal.overflow_mul-end
-overflow_mul-end c = omega (arith, c.requires.0.0, c.requires.0.1.1.few)
+overflow_mul-end c = omega (arith, c.requires.greys_len_bound.0, c.requires.greys_len_bound.1.1.few)
 
 pub loop-i-init : goal.loop-i-init
 unfolding filled
@@ -29,7 +29,7 @@ turn : (c : In-loop-i) →
     (l.i + 4 ≤ 4 * c.args.fours) × (l.i + 4 ≤ length c.args.greys.now) × (c.args.bits ≤ 14)
 turn c =
     let l = c.loop-i in
-    let windowed = c.requires.0.1 in
+    let windowed = c.requires.greys_len_bound.1 in
     let inside : l.i + 4 ≤ 4 * c.args.fours = omega (arith, l.invariant.0, l.invariant.1, c.loop-i-test.true) in
     (inside, omega (arith, inside, windowed.1.few), windowed.0 (omega (arith, inside)))
 
@@ -37,9 +37,9 @@ pub take_four-taken-requires : goal.take_four-taken-requires
 take_four-taken-requires c =
     let l = c.loop-i in
     let t = turn (goal.at.take_four-taken-requires c).In-loop-i in
-    let few : l.i + 4 ≤ 16777216 = omega (arith, t.1, c.requires.0.0) in
+    let few : l.i + 4 ≤ 16777216 = omega (arith, t.1, c.requires.greys_len_bound.0) in
     let bits : (l.i + 4) * c.args.bits ≤ 16777216 * 14 = mul-le-mul few t.2 in (
-      omega (arith, four_inside l.i c.requires.0.1.1 t.0 l.invariant.3),
+      omega (arith, four_inside l.i c.requires.greys_len_bound.1.1 t.0 l.invariant.3),
       t.2,
       omega (arith, l.invariant.3, bits, add-mul l.i 4 c.args.bits),
     )
@@ -52,14 +52,14 @@ taken c = let l = c.loop-i in four_here (first_bit 6) l.i c.take_four-taken.ensu
 
 pub grey_of-requires : goal.grey_of-requires
 grey_of-requires c =
-    grey_asked c.args.scale c.loop-i.i c.requires.1 (taken (goal.at.grey_of-requires c).After-take_four-taken).one (omega (arith, (turn (goal.at.grey_of-requires c).In-loop-i).1))
+    grey_asked c.args.scale c.loop-i.i c.requires.scaled_to (taken (goal.at.grey_of-requires c).After-take_four-taken).one (omega (arith, (turn (goal.at.grey_of-requires c).In-loop-i).1))
 
 pub bounds-greys-i : goal.bounds-greys-i
 bounds-greys-i c = omega (arith, (turn (goal.at.bounds-greys-i c).In-loop-i).1, c.loop-i.invariant.2)
 
 pub grey_of-requires-in-loop-i : goal.grey_of-requires-in-loop-i
 grey_of-requires-in-loop-i c =
-    grey_asked c.args.scale (c.loop-i.i + 1) c.requires.1 (taken (goal.at.grey_of-requires-in-loop-i c).After-take_four-taken).two (omega (arith, (turn (goal.at.grey_of-requires-in-loop-i c).In-loop-i).1))
+    grey_asked c.args.scale (c.loop-i.i + 1) c.requires.scaled_to (taken (goal.at.grey_of-requires-in-loop-i c).After-take_four-taken).two (omega (arith, (turn (goal.at.grey_of-requires-in-loop-i c).In-loop-i).1))
 
 pub bounds-greys-i-in-loop-i : goal.bounds-greys-i-in-loop-i
 bounds-greys-i-in-loop-i c =
@@ -67,7 +67,7 @@ bounds-greys-i-in-loop-i c =
 
 pub grey_of-requires-in-loop-i-2 : goal.grey_of-requires-in-loop-i-2
 grey_of-requires-in-loop-i-2 c =
-    grey_asked c.args.scale (c.loop-i.i + 2) c.requires.1 (taken (goal.at.grey_of-requires-in-loop-i-2 c).After-take_four-taken).three (omega (arith, (turn (goal.at.grey_of-requires-in-loop-i-2 c).In-loop-i).1))
+    grey_asked c.args.scale (c.loop-i.i + 2) c.requires.scaled_to (taken (goal.at.grey_of-requires-in-loop-i-2 c).After-take_four-taken).three (omega (arith, (turn (goal.at.grey_of-requires-in-loop-i-2 c).In-loop-i).1))
 
 pub bounds-greys-i-in-loop-i-2 : goal.bounds-greys-i-in-loop-i-2
 bounds-greys-i-in-loop-i-2 c =
@@ -75,7 +75,7 @@ bounds-greys-i-in-loop-i-2 c =
 
 pub grey_of-requires-in-loop-i-3 : goal.grey_of-requires-in-loop-i-3
 grey_of-requires-in-loop-i-3 c =
-    grey_asked c.args.scale (c.loop-i.i + 3) c.requires.1 (taken (goal.at.grey_of-requires-in-loop-i-3 c).After-take_four-taken).last (omega (arith, (turn (goal.at.grey_of-requires-in-loop-i-3 c).In-loop-i).1))
+    grey_asked c.args.scale (c.loop-i.i + 3) c.requires.scaled_to (taken (goal.at.grey_of-requires-in-loop-i-3 c).After-take_four-taken).last (omega (arith, (turn (goal.at.grey_of-requires-in-loop-i-3 c).In-loop-i).1))
 
 pub bounds-greys-i-in-loop-i-3 : goal.bounds-greys-i-in-loop-i-3
 bounds-greys-i-in-loop-i-3 c =

@@ -14,7 +14,7 @@ use Rattle.values_greys.proofs.put_group.Goals.{After-fours_in-fours}
 use Rattle.values_greys.proofs.put_group.Goals as goal
 
 pub fours_in-fours-requires : goal.fours_in-fours-requires
-fours_in-fours-requires c = (omega (arith, c.requires.0.0.of_end), omega (arith, c.requires.0.2))
+fours_in-fours-requires c = (omega (arith, c.requires.limits.0.of_end), omega (arith, c.requires.limits.2))
 
 -- So many numbers can be read four at a time.
 foured : (c : After-fours_in-fours) →
@@ -22,42 +22,30 @@ foured : (c : After-fours_in-fours) →
     Foured (length a.section.now) a.group.from.0 a.group.width a.group.count c.fours_in-fours.result
 foured c =
     let a = c.args in
-    rw c.requires.0.1 at (fours_foured (length a.section.now) a.group.from.0 a.group.width (length a.greys.now) c.fours_in-fours.ensures)
+    rw c.requires.limits.1 at (fours_foured (length a.section.now) a.group.from.0 a.group.width (length a.greys.now) c.fours_in-fours.ensures)
 
 pub put_group_fours-last-requires : goal.put_group_fours-last-requires
 put_group_fours-last-requires c =
     let a = c.args in
     let earlier = kept_earlier a.section.now a.group (Worked.Kept a.latest.x a.latest.before) a.group.count in
-    let few = (foured (goal.at.put_group_fours-last-requires c).After-fours_in-fours).few in (
-      (c.requires.0.0, omega (arith, c.requires.0.1), c.requires.0.2),
-      (rw c.requires.0.1 (foured (goal.at.put_group_fours-last-requires c).After-fours_in-fours), (earlier (4 * c.fours_in-fours.result) few c.requires.1.0, (c.requires.1.1.0, λ m h. c.requires.1.1.1 m (omega (arith, h, few))))),
-    )
+    let few = (foured (goal.at.put_group_fours-last-requires c).After-fours_in-fours).few in record { limits = (c.requires.limits.0, omega (arith, c.requires.limits.1), c.requires.limits.2); foured = rw c.requires.limits.1 (foured (goal.at.put_group_fours-last-requires c).After-fours_in-fours); group_kept = earlier (4 * c.fours_in-fours.result) few c.requires.group_kept; scaled_to = (c.requires.scaled_to.0, λ m h. c.requires.scaled_to.1 m (omega (arith, h, few))) }
 
 pub overflow_mul-fours : goal.overflow_mul-fours
 overflow_mul-fours c =
-    omega (arith, (foured (goal.at.overflow_mul-fours c).After-fours_in-fours).few, c.requires.0.1, c.requires.0.2)
+    omega (arith, (foured (goal.at.overflow_mul-fours c).After-fours_in-fours).few, c.requires.limits.1, c.requires.limits.2)
 
 pub put_group_each-requires : goal.put_group_each-requires
 put_group_each-requires c =
     let a = c.args in
     let done = 4 * c.fours_in-fours.result in
     let few = (foured (goal.at.put_group_each-requires c).After-fours_in-fours).few in
-    let goes = c.put_group_fours-last.ensures.0 in
-    rw (c.put_group_fours-last.auto.1.1.1.1.0 ∙ c.requires.0.1) (
-      (limits_on a.section.now a.group a.latest.x a.latest.before done goes c.requires.0.0, few, omega arith),
-      (
-        ap is_kept (behind_all a.section.now a.group a.latest.x a.latest.before done goes few) ∙ c.requires.1.0,
-        (c.requires.1.1.0, left_below a.section.now a.group a.latest.x a.latest.before done goes a.scale few c.requires.1.1.1),
-      ),
-    )
+    let goes = c.put_group_fours-last.ensures.group_goes in
+    rw (c.put_group_fours-last.auto.1.1.1.1.0 ∙ c.requires.limits.1) (record { limits = (limits_on a.section.now a.group a.latest.x a.latest.before done goes c.requires.limits.0, few, omega arith); group_kept = ap is_kept (behind_all a.section.now a.group a.latest.x a.latest.before done goes few) ∙ c.requires.group_kept; scaled_to = (c.requires.scaled_to.0, left_below a.section.now a.group a.latest.x a.latest.before done goes a.scale few c.requires.scaled_to.1) })
 
 pub returns : goal.returns
 returns c =
     let a = c.args in
     let done = 4 * c.fours_in-fours.result in
     let few = (foured (goal.at.returns c).After-fours_in-fours).few in
-    let goes = c.put_group_fours-last.ensures.0 in
-    let told = rw (c.put_group_fours-last.auto.1.1.1.1.0 ∙ c.requires.0.1) at c.put_group_each.ensures in (
-      sym (behind_all a.section.now a.group a.latest.x a.latest.before done goes few) ∙ told.0,
-      greys_joined a.section.now a.group a.latest.x a.latest.before done goes a.scale a.greys.now few (sym c.requires.0.1) c.put_group_fours-last.ensures.1 told.1,
-    )
+    let goes = c.put_group_fours-last.ensures.group_goes in
+    let told = rw (c.put_group_fours-last.auto.1.1.1.1.0 ∙ c.requires.limits.1) at c.put_group_each.ensures in record { group_goes = sym (behind_all a.section.now a.group a.latest.x a.latest.before done goes few) ∙ told.0; greys_after = greys_joined a.section.now a.group a.latest.x a.latest.before done goes a.scale a.greys.now few (sym c.requires.limits.1) c.put_group_fours-last.ensures.greys_after told.1 }

@@ -19,13 +19,13 @@ use Rattle.values_greys.proofs.put_group_each.Goals as goal
 
 -- What is left keeps the sizes of the group, and what is left out has few bits.
 sizes_left : (c : Start) → Limits (behind c.args.group c.args.from) c.args.latest.x c.args.latest.before
-sizes_left c = behind_limits c.args.section.now c.args.group c.args.from c.requires.0.0 (omega (arith, c.requires.0.1, c.requires.0.2))
+sizes_left c = behind_limits c.args.section.now c.args.group c.args.from c.requires.limits.0 (omega (arith, c.requires.limits.1, c.requires.limits.2))
 
 left_out : (c : Start) → c.args.group.from.0 + c.args.from * c.args.group.width ≤ 1099511627776
 left_out c = omega (arith, (sizes_left c).of_end)
 
 pub gain_of-gain-requires : goal.gain_of-gain-requires
-gain_of-gain-requires c = (c.requires.0.0.of_base, c.requires.0.0.of_lowered)
+gain_of-gain-requires c = (c.requires.limits.0.of_base, c.requires.limits.0.of_lowered)
 
 pub overflow_mul-at : goal.overflow_mul-at
 overflow_mul-at c = omega (arith, left_out (goal.at.overflow_mul-at c).Start)
@@ -39,12 +39,12 @@ loop-i-init c =
     let a = c.args in
     let none : a.from - a.from ≡ 0 = omega arith in
     let start = course_of a.section.now (behind a.group a.from) c.gain_of-gain.result a.latest.x a.latest.before in
-    rw none (omega arith, c.requires.0.1, refl, none_reached start, refl)
+    rw none (omega arith, c.requires.limits.1, refl, none_reached start, refl)
 
 pub take-taken-requires : goal.take-taken-requires
 take-taken-requires c =
     let l = c.loop-i in
-    one_there (sizes_left (goal.at.take-taken-requires c).Start) l.invariant.3 (omega (arith, l.invariant.0, l.invariant.2, c.requires.0.2, c.loop-i-test.true))
+    one_there (sizes_left (goal.at.take-taken-requires c).Start) l.invariant.3 (omega (arith, l.invariant.0, l.invariant.2, c.requires.limits.2, c.loop-i-test.true))
 
 -- What the loop goes by, from where its integer is worked out.
 abbrev Way : After-integer_behind-one → Course
@@ -58,10 +58,10 @@ next_kept : (c : After-integer_behind-one) →
     let a = c.args in
     Reached (Way c) (l.i + 1 - a.from) c.take-taken.result.next.0 (Worked.Kept c.integer_behind-one.result l.x)
 next_kept c =
-    let sizes_left : (Limits (behind c.args.group c.args.from) c.args.latest.x c.args.latest.before) = behind_limits c.args.section.now c.args.group c.args.from c.requires.0.0 (omega (arith, c.requires.0.1, c.requires.0.2)) in
+    let sizes_left : (Limits (behind c.args.group c.args.from) c.args.latest.x c.args.latest.before) = behind_limits c.args.section.now c.args.group c.args.from c.requires.limits.0 (omega (arith, c.requires.limits.1, c.requires.limits.2)) in
     let l = c.loop-i in
     let g = c.gain_of-gain in
-    let all = tested_kept c.args.section.now (behind c.args.group c.args.from) g.result (sizes_left) g.ensures c.requires.1.0 in
+    let all = tested_kept c.args.section.now (behind c.args.group c.args.from) g.result (sizes_left) g.ensures c.requires.group_kept in
     let kept = all (l.i - c.args.from + 1) (omega (arith, l.invariant.0, l.invariant.2, c.loop-i-test.true)) in
     reached_as (one_kept l.invariant.3 c.take-taken.ensures.0 c.integer_behind-one.ensures kept) (omega (arith, l.invariant.0)) c.take-taken.ensures.1 refl
 
@@ -72,13 +72,13 @@ own : (c : After-element) →
     (c.element.result ≡ integer_by ((let a = c.args in
     course_of a.section.now (behind a.group a.from) c.gain_of-gain.result a.latest.x a.latest.before)) (l.i - a.from)) × (ScaledTo a.scale × (c.element.result ≤ a.scale.largest))
 own c =
-    let sizes_left : (Limits (behind c.args.group c.args.from) c.args.latest.x c.args.latest.before) = behind_limits c.args.section.now c.args.group c.args.from c.requires.0.0 (omega (arith, c.requires.0.1, c.requires.0.2)) in
-    let next_kept : (let l = c.loop-i in let a = c.args in Reached ((let a = c.args in course_of a.section.now (behind a.group a.from) c.gain_of-gain.result a.latest.x a.latest.before)) (l.i + 1 - a.from) c.take-taken.result.next.0 (Worked.Kept c.integer_behind-one.result l.x)) = let sizes_left : (Limits (behind c.args.group c.args.from) c.args.latest.x c.args.latest.before) = behind_limits c.args.section.now c.args.group c.args.from c.requires.0.0 (omega (arith, c.requires.0.1, c.requires.0.2)) in let l = c.loop-i in let g = c.gain_of-gain in let all = tested_kept c.args.section.now (behind c.args.group c.args.from) g.result (sizes_left) g.ensures c.requires.1.0 in let kept = all (l.i - c.args.from + 1) (omega (arith, l.invariant.0, l.invariant.2, c.loop-i-test.true)) in reached_as (one_kept l.invariant.3 c.take-taken.ensures.0 c.integer_behind-one.ensures kept) (omega (arith, l.invariant.0)) c.take-taken.ensures.1 refl in
+    let sizes_left : (Limits (behind c.args.group c.args.from) c.args.latest.x c.args.latest.before) = behind_limits c.args.section.now c.args.group c.args.from c.requires.limits.0 (omega (arith, c.requires.limits.1, c.requires.limits.2)) in
+    let next_kept : (let l = c.loop-i in let a = c.args in Reached ((let a = c.args in course_of a.section.now (behind a.group a.from) c.gain_of-gain.result a.latest.x a.latest.before)) (l.i + 1 - a.from) c.take-taken.result.next.0 (Worked.Kept c.integer_behind-one.result l.x)) = let sizes_left : (Limits (behind c.args.group c.args.from) c.args.latest.x c.args.latest.before) = behind_limits c.args.section.now c.args.group c.args.from c.requires.limits.0 (omega (arith, c.requires.limits.1, c.requires.limits.2)) in let l = c.loop-i in let g = c.gain_of-gain in let all = tested_kept c.args.section.now (behind c.args.group c.args.from) g.result (sizes_left) g.ensures c.requires.group_kept in let kept = all (l.i - c.args.from + 1) (omega (arith, l.invariant.0, l.invariant.2, c.loop-i-test.true)) in reached_as (one_kept l.invariant.3 c.take-taken.ensures.0 c.integer_behind-one.ensures kept) (omega (arith, l.invariant.0)) c.take-taken.ensures.1 refl in
     let l = c.loop-i in
     let g = c.gain_of-gain in
     let a = c.args in
     let m : ℕ = l.i - a.from in
-    element_own a.section.now (behind a.group a.from) g.result (sizes_left) g.ensures a.scale c.requires.1.1 m
+    element_own a.section.now (behind a.group a.from) g.result (sizes_left) g.ensures a.scale c.requires.scaled_to m
     (omega (arith, l.invariant.0, l.invariant.2, c.loop-i-test.true)) c.element.ensures (last_counted m (omega (arith, l.invariant.0)) (next_kept))
 
 pub grey_of-requires : goal.grey_of-requires
@@ -106,7 +106,4 @@ returns c =
     let a = c.args in
     let left = behind a.group a.from in
     let n : ℕ = length a.greys.now - a.from in
-    let all : l.i - a.from ≡ n = omega (arith, l.invariant.1, l.invariant.2, c.loop-i-test.false) in (
-      sym (reached_worked a.section.now left g.result (sizes_left (goal.at.returns c).Start) g.ensures l.invariant.3 all),
-      greys_own a.section.now left g.result (sizes_left (goal.at.returns c).Start) g.ensures a.scale (λ j. j - a.from) a.from n a.greys.now l.invariant.4 all,
-    )
+    let all : l.i - a.from ≡ n = omega (arith, l.invariant.1, l.invariant.2, c.loop-i-test.false) in record { group_goes = sym (reached_worked a.section.now left g.result (sizes_left (goal.at.returns c).Start) g.ensures l.invariant.3 all); greys_after = greys_own a.section.now left g.result (sizes_left (goal.at.returns c).Start) g.ensures a.scale (λ j. j - a.from) a.from n a.greys.now l.invariant.4 all }

@@ -16,10 +16,10 @@ use Rattle.values_greys.proofs.put_group_fours.Goals.{After-integer_behind-last,
 use Rattle.values_greys.proofs.put_group_fours.Goals as goal
 
 pub gain_of-gain-requires : goal.gain_of-gain-requires
-gain_of-gain-requires c = (c.requires.0.0.of_base, c.requires.0.0.of_lowered)
+gain_of-gain-requires c = (c.requires.limits.0.of_base, c.requires.limits.0.of_lowered)
 
 pub overflow_mul-end : goal.overflow_mul-end
-overflow_mul-end c = omega (arith, c.requires.1.0.few, c.requires.0.2)
+overflow_mul-end c = omega (arith, c.requires.foured.few, c.requires.limits.2)
 
 pub loop-i-init : goal.loop-i-init
 unfolding filled
@@ -27,8 +27,8 @@ loop-i-init c =
     let a = c.args in (
       omega arith,
       omega arith,
-      c.requires.1.0.few,
-      c.requires.0.2,
+      c.requires.foured.few,
+      c.requires.limits.2,
       refl,
       none_reached (course_of a.section.now a.group c.gain_of-gain.result a.latest.x a.latest.before),
       refl,
@@ -40,7 +40,7 @@ turn c = omega (arith, c.loop-i-test.true, c.loop-i.invariant.1)
 
 pub four_at-taken-requires : goal.four_at-taken-requires
 four_at-taken-requires c =
-    four_there c.requires.0.0 c.loop-i.invariant.5 c.requires.1.0 c.requires.0.1 (turn (goal.at.four_at-taken-requires c).In-loop-i)
+    four_there c.requires.limits.0 c.loop-i.invariant.5 c.requires.foured c.requires.limits.1 (turn (goal.at.four_at-taken-requires c).In-loop-i)
 
 -- What the loop goes by, from where its four integers are worked out.
 abbrev Way : After-integer_behind-last → Course
@@ -56,7 +56,7 @@ four c =
     let turn : (c.loop-i.i + 4 ≤ 4 * c.args.fours) = omega (arith, c.loop-i-test.true, c.loop-i.invariant.1) in
     let l = c.loop-i in
     let g = c.gain_of-gain in
-    let kept = tested_kept c.args.section.now c.args.group g.result c.requires.0.0 g.ensures c.requires.1.1.0 in
+    let kept = tested_kept c.args.section.now c.args.group g.result c.requires.limits.0 g.ensures c.requires.group_kept in
     four_kept c.four_at-taken.ensures l.i l.invariant.5 (λ k h. kept k (omega (arith, h, turn)))
     c.integer_behind-one.ensures c.integer_behind-two.ensures c.integer_behind-three.ensures c.integer_behind-last.ensures
 
@@ -68,7 +68,7 @@ own : {integer element : ℕ} (c : After-integer_behind-last) (m : ℕ) →
 own c m h =
     let turn : (c.loop-i.i + 4 ≤ 4 * c.args.fours) = omega (arith, c.loop-i-test.true, c.loop-i.invariant.1) in
     let g = c.gain_of-gain in
-    element_own c.args.section.now c.args.group g.result c.requires.0.0 g.ensures c.args.scale c.requires.1.1.1 m (omega (arith, h, turn))
+    element_own c.args.section.now c.args.group g.result c.requires.limits.0 g.ensures c.args.scale c.requires.scaled_to m (omega (arith, h, turn))
 
 pub grey_of-requires : goal.grey_of-requires
 grey_of-requires c =
@@ -131,7 +131,4 @@ returns c =
     let l = c.loop-i in
     let g = c.gain_of-gain in
     let a = c.args in
-    let all : l.i ≡ 4 * a.fours = omega (arith, l.invariant.0, c.loop-i-test.false) in (
-      sym (reached_worked a.section.now a.group g.result c.requires.0.0 g.ensures l.invariant.5 all),
-      greys_own a.section.now a.group g.result c.requires.0.0 g.ensures a.scale (λ j. j) 0 (4 * a.fours) a.greys.now l.invariant.6 all,
-    )
+    let all : l.i ≡ 4 * a.fours = omega (arith, l.invariant.0, c.loop-i-test.false) in record { group_goes = sym (reached_worked a.section.now a.group g.result c.requires.limits.0 g.ensures l.invariant.5 all); greys_after = greys_own a.section.now a.group g.result c.requires.limits.0 g.ensures a.scale (λ j. j) 0 (4 * a.fours) a.greys.now l.invariant.6 all }

@@ -18,7 +18,7 @@ use Rattle.values_greys.proofs.put_numbers.Goals.{After-take-taken, After-window
 use Rattle.values_greys.proofs.put_numbers.Goals as goal
 
 pub window_fours-fours-requires : goal.window_fours-fours-requires
-window_fours-fours-requires c = c.requires.0.1
+window_fours-fours-requires c = c.requires.bits_bound.1
 
 -- So many fours can be read each from one window.
 fours_fit : (c : After-window_fours-fours) →
@@ -27,15 +27,15 @@ fours_fit : (c : After-window_fours-fours) →
 fours_fit c = let a = c.args in windowed a.section.now a.bits (length a.greys.now) c.window_fours-fours.ensures
 
 pub put_fours-requires : goal.put_fours-requires
-put_fours-requires c = ((c.requires.0.1, fours_fit (goal.at.put_fours-requires c).After-window_fours-fours), c.requires.1)
+put_fours-requires c = record { greys_len_bound = (c.requires.bits_bound.1, fours_fit (goal.at.put_fours-requires c).After-window_fours-fours); scaled_to = c.requires.scaled_to }
 
 -- The first greys are no more than there are, and their bits are few.
 few : (c : After-window_fours-fours) →
     (4 * c.window_fours-fours.result ≤ length c.args.greys.now) × (4 * c.window_fours-fours.result ≤ 16777216) × (4 * c.window_fours-fours.result * c.args.bits ≤ 520093696)
 few c =
     let all = (fours_fit c).1.few in
-    let most : 4 * c.window_fours-fours.result ≤ 16777216 = omega (arith, all, c.requires.0.1) in
-    (all, most, mul-le-mul most c.requires.0.0)
+    let most : 4 * c.window_fours-fours.result ≤ 16777216 = omega (arith, all, c.requires.bits_bound.1) in
+    (all, most, mul-le-mul most c.requires.bits_bound.0)
 
 pub overflow_mul-i : goal.overflow_mul-i
 overflow_mul-i c = omega (arith, (few (goal.at.overflow_mul-i c).After-window_fours-fours).1)
@@ -60,12 +60,12 @@ turn : (c : In-loop-i) →
 turn c =
     let l = c.loop-i in
     let here : l.i + 1 ≤ length c.args.greys.now = omega (arith, l.invariant.2, c.put_fours.auto, c.loop-i-test.true) in
-    let most : l.i ≤ 16777216 = omega (arith, here, c.requires.0.1) in
-    (here, mul-le-mul most c.requires.0.0)
+    let most : l.i ≤ 16777216 = omega (arith, here, c.requires.bits_bound.1) in
+    (here, mul-le-mul most c.requires.bits_bound.0)
 
 pub take-taken-requires : goal.take-taken-requires
 take-taken-requires c =
-    omega (arith, (turn (goal.at.take-taken-requires c).In-loop-i).1, c.loop-i.invariant.3, c.requires.0.0)
+    omega (arith, (turn (goal.at.take-taken-requires c).In-loop-i).1, c.loop-i.invariant.3, c.requires.bits_bound.0)
 
 -- The number that is taken is the next integer of the field.
 taken : (c : After-take-taken) →
@@ -78,7 +78,7 @@ taken c =
 
 pub grey_of-requires : goal.grey_of-requires
 grey_of-requires c =
-    grey_asked c.args.scale c.loop-i.i c.requires.1 (taken (goal.at.grey_of-requires c).After-take-taken) (omega (arith, (turn (goal.at.grey_of-requires c).In-loop-i).0))
+    grey_asked c.args.scale c.loop-i.i c.requires.scaled_to (taken (goal.at.grey_of-requires c).After-take-taken) (omega (arith, (turn (goal.at.grey_of-requires c).In-loop-i).0))
 
 pub bounds-greys-i : goal.bounds-greys-i
 bounds-greys-i c = c.loop-i-test.true

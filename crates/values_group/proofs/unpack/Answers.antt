@@ -12,8 +12,8 @@ use Rattle.values_group.proofs.unpack.Goals as goal
 
 pub behind-rest-requires : goal.behind-rest-requires
 behind-rest-requires c =
-    let sizes = c.requires.0.0 in
-    (omega (arith, c.requires.0.1), omega (arith, sizes.of_end), sizes.of_width, sizes.of_count)
+    let sizes = c.requires.limits.0 in
+    (omega (arith, c.requires.limits.1), omega (arith, sizes.of_end), sizes.of_width, sizes.of_count)
 
 -- What is left of the group keeps its sizes, its integers are in their range, and there are enough of them.
 left : (c : After-behind-rest) →
@@ -21,8 +21,8 @@ left : (c : After-behind-rest) →
     let g = c.behind-rest.result in
     Limits g a.latest.x a.latest.before × GroupKept a.section.now g a.latest (length a.block.now) × (length a.block.now ≤ g.count)
 left c =
-    let sizes = behind_limits c.args.section.now c.args.group c.args.done c.requires.0.0 (omega (arith, c.requires.0.1)) in
-    rw c.behind-rest.ensures (sizes, c.requires.1, omega (arith, c.requires.0.1))
+    let sizes = behind_limits c.args.section.now c.args.group c.args.done c.requires.limits.0 (omega (arith, c.requires.limits.1)) in
+    rw c.behind-rest.ensures (sizes, c.requires.group_kept, omega (arith, c.requires.limits.1))
 
 pub fours_in-fours-requires : goal.fours_in-fours-requires
 fours_in-fours-requires c =
@@ -43,7 +43,7 @@ unpack_fours-last-requires c =
     let a = c.args in
     let rest = left (goal.at.unpack_fours-last-requires c).After-behind-rest in
     let earlier = kept_earlier a.section.now c.behind-rest.result (Worked.Kept a.latest.x a.latest.before) (length a.block.now) in
-    ((rest.0, rest.2), (foured (goal.at.unpack_fours-last-requires c).After-fours_in-fours, earlier (4 * c.fours_in-fours.result) (foured (goal.at.unpack_fours-last-requires c).After-fours_in-fours).few rest.1))
+    record { limits = (rest.0, rest.2); foured = foured (goal.at.unpack_fours-last-requires c).After-fours_in-fours; group_kept = earlier (4 * c.fours_in-fours.result) (foured (goal.at.unpack_fours-last-requires c).After-fours_in-fours).few rest.1 }
 
 pub overflow_mul-fours : goal.overflow_mul-fours
 overflow_mul-fours c =
@@ -51,10 +51,10 @@ overflow_mul-fours c =
 
 -- The block keeps its length.
 same_block : (c : After-unpack_fours-last) →
-    length c.unpack_fours-last.new.1.1.1.0 ≡ length c.args.block.now
+    length c.unpack_fours-last.new.block ≡ length c.args.block.now
 same_block c =
     let a = c.args in
-    ap length c.unpack_fours-last.ensures.1
+    ap length c.unpack_fours-last.ensures.block_after
     ∙ filled_length (integers_of a.section.now c.behind-rest.result a.latest) 0 (4 * c.fours_in-fours.result) a.block.now
 
 pub unpack_each-requires : goal.unpack_each-requires
@@ -63,10 +63,7 @@ unpack_each-requires c =
     let a = c.args in
     let rest = left (goal.at.unpack_each-requires c).After-behind-rest in
     let done = 4 * c.fours_in-fours.result in
-    rw (same_block (goal.at.unpack_each-requires c).After-unpack_fours-last) (
-      (limits_on a.section.now g a.latest.x a.latest.before done c.unpack_fours-last.ensures.0 rest.0, (foured (goal.at.unpack_each-requires c).After-fours_in-fours).few, rest.2),
-      ap is_kept (behind_all a.section.now g a.latest.x a.latest.before done c.unpack_fours-last.ensures.0 (foured (goal.at.unpack_each-requires c).After-fours_in-fours).few) ∙ rest.1,
-    )
+    rw (same_block (goal.at.unpack_each-requires c).After-unpack_fours-last) (record { limits = (limits_on a.section.now g a.latest.x a.latest.before done c.unpack_fours-last.ensures.group_goes rest.0, (foured (goal.at.unpack_each-requires c).After-fours_in-fours).few, rest.2); group_kept = ap is_kept (behind_all a.section.now g a.latest.x a.latest.before done c.unpack_fours-last.ensures.group_goes (foured (goal.at.unpack_each-requires c).After-fours_in-fours).few) ∙ rest.1 })
 
 pub returns : goal.returns
 returns c =
@@ -74,9 +71,9 @@ returns c =
     let a = c.args in
     let done = 4 * c.fours_in-fours.result in
     let told = rw (same_block (goal.at.returns c).After-unpack_fours-last) at c.unpack_each.ensures in
-    let goes = c.unpack_fours-last.ensures.0 in
-    rw (← c.behind-rest.ensures) (
-      sym (behind_all a.section.now g a.latest.x a.latest.before done goes (foured (goal.at.returns c).After-fours_in-fours).few) ∙ told.0,
-      block_joined a.section.now g a.latest.x a.latest.before done goes a.block.now
-          (foured (goal.at.returns c).After-fours_in-fours).few refl c.unpack_fours-last.ensures.1 told.1,
-    )
+    let goes = c.unpack_fours-last.ensures.group_goes in
+    rw (← c.behind-rest.ensures) (record {
+      group_goes = sym (behind_all a.section.now g a.latest.x a.latest.before done goes (foured (goal.at.returns c).After-fours_in-fours).few) ∙ told.0;
+      block_after = block_joined a.section.now g a.latest.x a.latest.before done goes a.block.now
+          (foured (goal.at.returns c).After-fours_in-fours).few refl c.unpack_fours-last.ensures.block_after told.1;
+    })

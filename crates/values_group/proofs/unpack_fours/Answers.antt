@@ -7,18 +7,18 @@ use Rattle.values_group.proofs.unpack_fours.Goals.{In-loop-i}
 use Rattle.values_group.proofs.unpack_fours.Goals as goal
 
 pub gain_of-gain-requires : goal.gain_of-gain-requires
-gain_of-gain-requires c = (c.requires.0.0.of_base, c.requires.0.0.of_lowered)
+gain_of-gain-requires c = (c.requires.limits.0.of_base, c.requires.limits.0.of_lowered)
 
 pub overflow_mul-end : goal.overflow_mul-end
-overflow_mul-end c = omega (arith, c.requires.1.0.few, c.requires.0.1, c.requires.0.0.of_count)
+overflow_mul-end c = omega (arith, c.requires.foured.few, c.requires.limits.1, c.requires.limits.0.of_count)
 
 pub loop-i-init : goal.loop-i-init
 loop-i-init c =
     let a = c.args in (
       omega arith,
       omega arith,
-      c.requires.1.0.few,
-      omega (arith, c.requires.0.1, c.requires.0.0.of_count),
+      c.requires.foured.few,
+      omega (arith, c.requires.limits.1, c.requires.limits.0.of_count),
       refl,
       none_held (course_of a.section.now a.group c.gain_of-gain.result a.latest.x a.latest.before) (λ j. j) 0 a.block.now,
     )
@@ -29,7 +29,7 @@ turn c = omega (arith, c.loop-i-test.true, c.loop-i.invariant.1)
 
 pub four_at-taken-requires : goal.four_at-taken-requires
 four_at-taken-requires c =
-    four_there c.requires.0.0 c.loop-i.invariant.5.reached c.requires.1.0 c.requires.0.1 (turn (goal.at.four_at-taken-requires c).In-loop-i)
+    four_there c.requires.limits.0 c.loop-i.invariant.5.reached c.requires.foured c.requires.limits.1 (turn (goal.at.four_at-taken-requires c).In-loop-i)
 
 pub bounds-block-i-in-loop-i : goal.bounds-block-i-in-loop-i
 bounds-block-i-in-loop-i c = simp length-set (search rules)
@@ -62,7 +62,4 @@ pub returns : goal.returns
 returns c =
     let l = c.loop-i in
     let g = c.gain_of-gain in
-    let all : l.i ≡ 4 * c.args.fours = omega (arith, l.invariant.0, c.loop-i-test.false) in (
-      sym (reached_worked c.args.section.now c.args.group g.result c.requires.0.0 g.ensures l.invariant.5.reached all),
-      held_integers c.args.section.now c.args.group g.result c.requires.0.0 g.ensures l.invariant.5 all,
-    )
+    let all : l.i ≡ 4 * c.args.fours = omega (arith, l.invariant.0, c.loop-i-test.false) in record { group_goes = sym (reached_worked c.args.section.now c.args.group g.result c.requires.limits.0 g.ensures l.invariant.5.reached all); block_after = held_integers c.args.section.now c.args.group g.result c.requires.limits.0 g.ensures l.invariant.5 all }

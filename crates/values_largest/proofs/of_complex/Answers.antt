@@ -32,7 +32,7 @@ loop-i-init c =
 
 pub group_at-met-requires : goal.group_at-met-requires
 group_at-met-requires c =
-    (((Begun (goal.at.group_at-met-requires c).In-loop-i).requires, c.loop-i-test.true), c.loop-i.invariant.starts)
+    record { sound = ((Begun (goal.at.group_at-met-requires c).In-loop-i).requires, c.loop-i-test.true); start_value = c.loop-i.invariant.starts }
 
 -- The group that is looked at is group i.
 same : (c : After-group-1) →

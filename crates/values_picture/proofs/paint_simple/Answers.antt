@@ -5,17 +5,17 @@ use Rattle.values_picture.proofs.Laws.{packed_fit, lent_length, spread_ready, sp
 use Rattle.values_picture.proofs.paint_simple.Goals as goal
 
 pub overflow_sub-from : goal.overflow_sub-from
-overflow_sub-from c = packed_fit c.args.bitmap.now c.args.greys.now c.args.n c.requires.0.1
+overflow_sub-from c = packed_fit c.args.bitmap.now c.args.greys.now c.args.n c.requires.bits_bound.1
 
 pub put_simple-requires : goal.put_simple-requires
 put_simple-requires c =
-    let fit = packed_fit c.args.bitmap.now c.args.greys.now c.args.n c.requires.0.1 in
-    rw (lent_length c.args.bitmap.now c.args.greys.now c.args.n c.requires.0.1) ((c.requires.0.0, omega (arith, fit, c.requires.0.1.0)), c.requires.1)
+    let fit = packed_fit c.args.bitmap.now c.args.greys.now c.args.n c.requires.bits_bound.1 in
+    rw (lent_length c.args.bitmap.now c.args.greys.now c.args.n c.requires.bits_bound.1) (record { bits_bound = (c.requires.bits_bound.0, omega (arith, fit, c.requires.bits_bound.1.0)); scaled_to = c.requires.scaled_to })
 
 pub spread-requires : goal.spread-requires
-spread-requires c = spread_ready c.args.bitmap.now c.args.greys.now c.args.n c.requires.0.1 _ c.greys-1.given.1
+spread-requires c = spread_ready c.args.bitmap.now c.args.greys.now c.args.n c.requires.bits_bound.1 _ c.greys-1.given.1
 
 pub returns : goal.returns
 returns c =
-    spread_painted c.args.bitmap.now c.args.greys.now c.args.n c.requires.0.1 c.args.scale (simple_integer c.args.section.now c.args.bits) _ _
+    spread_painted c.args.bitmap.now c.args.greys.now c.args.n c.requires.bits_bound.1 c.args.scale (simple_integer c.args.section.now c.args.bits) _ _
     c.put_simple.ensures c.greys-1.given.1 c.spread.ensures

@@ -13,10 +13,10 @@ use Rattle.values_picture.proofs.spread.Goals as goal
 
 pub loop-i-init : goal.loop-i-init
 loop-i-init c =
-    spread_none (marks_in c.args.bitmap.now) (ranked c.args.bitmap.now) c.args.greys.now c.args.from c.requires.1
+    spread_none (marks_in c.args.bitmap.now) (ranked c.args.bitmap.now) c.args.greys.now c.args.from c.requires.greys_value
 
 pub is_present-requires : goal.is_present-requires
-is_present-requires c = λ some. omega (arith, c.loop-i.invariant.within, c.requires.0.1 some)
+is_present-requires c = λ some. omega (arith, c.loop-i.invariant.within, c.requires.greys_len_bound.1 some)
 
 -- The point is present, as it was told.
 present : (c : Then-is_present) →
@@ -30,7 +30,7 @@ present c =
 inside : (c : Then-is_present) →
     c.loop-i.next + 1 ≤ length c.args.greys.now
 inside c =
-    next_within (marks_in c.args.bitmap.now) (ranked c.args.bitmap.now) c.args.greys.now c.args.from c.requires.1 c.loop-i.invariant (omega arith) (present c)
+    next_within (marks_in c.args.bitmap.now) (ranked c.args.bitmap.now) c.args.greys.now c.args.from c.requires.greys_value c.loop-i.invariant (omega arith) (present c)
 
 pub bounds-greys-next : goal.bounds-greys-next
 bounds-greys-next c = omega (arith, inside (goal.at.bounds-greys-next c).Then-is_present, c.loop-i.invariant.kept)
@@ -46,7 +46,7 @@ loop-i-smaller-then-is_present c = omega (arith, inside (goal.at.loop-i-smaller-
 
 pub loop-i-preserved-then-is_present : goal.loop-i-preserved-then-is_present
 loop-i-preserved-then-is_present c =
-    spread_present (marks_in c.args.bitmap.now) (ranked c.args.bitmap.now) c.args.greys.now c.args.from c.requires.1 c.loop-i.invariant (omega arith) (present (goal.at.loop-i-preserved-then-is_present c).Then-is_present)
+    spread_present (marks_in c.args.bitmap.now) (ranked c.args.bitmap.now) c.args.greys.now c.args.from c.requires.greys_value c.loop-i.invariant (omega arith) (present (goal.at.loop-i-preserved-then-is_present c).Then-is_present)
 
 pub bounds-greys-i-else-is_present : goal.bounds-greys-i-else-is_present
 bounds-greys-i-else-is_present c = omega (arith, c.loop-i.invariant.within, c.loop-i.invariant.kept)
@@ -56,7 +56,7 @@ loop-i-smaller c = omega (arith, c.loop-i.invariant.within)
 
 pub loop-i-preserved : goal.loop-i-preserved
 loop-i-preserved c =
-    spread_missing (marks_in c.args.bitmap.now) (ranked c.args.bitmap.now) c.args.greys.now c.args.from c.requires.1 c.loop-i.invariant (omega arith)
+    spread_missing (marks_in c.args.bitmap.now) (ranked c.args.bitmap.now) c.args.greys.now c.args.from c.requires.greys_value c.loop-i.invariant (omega arith)
     (omega (arith, (ranked c.args.bitmap.now).few c.loop-i.i, eqb-false ((marks_in c.args.bitmap.now).mark c.loop-i.i) 1 (sym c.is_present.ensures ∙ c.if-is_present.false)))
 
 pub shape_of-greys : goal.shape_of-greys
@@ -64,4 +64,4 @@ shape_of-greys c = c.loop-i.invariant.kept
 
 pub returns : goal.returns
 returns c =
-    spread_whole (marks_in c.args.bitmap.now) (ranked c.args.bitmap.now) c.args.greys.now c.args.from c.requires.1 c.loop-i.invariant (omega arith)
+    spread_whole (marks_in c.args.bitmap.now) (ranked c.args.bitmap.now) c.args.greys.now c.args.from c.requires.greys_value c.loop-i.invariant (omega arith)

@@ -11,10 +11,10 @@ use Rattle.values_points.proofs.clear_missing.Goals as goal
 pub loop-i-init : goal.loop-i-init
 loop-i-init c =
     let a = c.args in
-    (refl, refl, missing_none (marks_in a.bitmap.now) a.point (runs a.values.now a.presence.now) c.requires.1)
+    (refl, refl, missing_none (marks_in a.bitmap.now) a.point (runs a.values.now a.presence.now) c.requires.point_in_bounds)
 
 pub is_present-requires : goal.is_present-requires
-is_present-requires c = λ some. omega (arith, c.requires.0.2 some)
+is_present-requires c = λ some. omega (arith, c.requires.room.2 some)
 
 pub returns-then-is_present : goal.returns-then-is_present
 returns-then-is_present c =

@@ -19,7 +19,7 @@ pub write_all-requires : goal.write_all-requires
 write_all-requires c =
     let a = c.args in
     let run = a.bitmap.now in
-    let inside = present_within (marks_in run) (ranked run) a.point (length a.block.now) (length a.values.now) c.requires.1.0.0 c.requires.1.0.1 (told (goal.at.write_all-requires c).Then-are_present) in
+    let inside = present_within (marks_in run) (ranked run) a.point (length a.block.now) (length a.values.now) c.requires.points_left.0.0 c.requires.points_left.0.1 (told (goal.at.write_all-requires c).Then-are_present) in
     (omega arith, omega arith, omega (arith, inside))
 
 pub returns-then-are_present : goal.returns-then-are_present

@@ -15,16 +15,13 @@ loop-k-init c =
       refl,
       refl,
       written_none (marks_in run) (ranked run).more c.args.packing (integers_in c.args.block.now) c.args.point
-          (runs c.args.values.now c.args.presence.now) c.requires.1.0,
+          (runs c.args.values.now c.args.presence.now) c.requires.points_left.0,
     )
 
 pub write_next-next-requires : goal.write_next-next-requires
 write_next-next-requires c =
     let l = c.loop-k in
-    let all = ap (marks_in c.args.bitmap.now).rank l.invariant.1 in (
-      (omega arith, omega arith, λ some. omega (arith, c.requires.0.2 some, l.invariant.1)),
-      (omega (arith, l.invariant.3.past.within, l.invariant.1), omega (arith, l.invariant.3.past.used, all, c.requires.1)),
-    )
+    let all = ap (marks_in c.args.bitmap.now).rank l.invariant.1 in record { room = (omega arith, omega arith, λ some. omega (arith, c.requires.room.2 some, l.invariant.1)); points_left = (omega (arith, l.invariant.3.past.within, l.invariant.1), omega (arith, l.invariant.3.past.used, all, c.requires.points_left)) }
 
 pub loop-k-preserved : goal.loop-k-preserved
 loop-k-preserved c =

@@ -15,7 +15,7 @@ found : (c : After-clear_missing-next) → let a = c.args in c.clear_missing-nex
 found c =
     let run = c.args.bitmap.now in
     let cleared = cleared_past (marks_in run) (ranked run) c.args.packing (λ _. c.args.x) c.clear_missing-next.ensures in
-    rank_below (marks_in run) (ranked run).more {i = c.clear_missing-next.result} (length c.args.values.now) (omega (arith, cleared.used, c.requires.1.1))
+    rank_below (marks_in run) (ranked run).more {i = c.clear_missing-next.result} (length c.args.values.now) (omega (arith, cleared.used, c.requires.points_left.1))
 
 pub bounds-values-next : goal.bounds-values-next
 bounds-values-next c = omega (arith, found (goal.at.bounds-values-next c).After-clear_missing-next)

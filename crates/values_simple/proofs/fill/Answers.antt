@@ -68,25 +68,25 @@ unpack-requires c =
 -- The part comes back with the next integers, as long as it was; the block keeps its length, and its zeros where integers have no bits.
 unpacked : (c : After-unpack) →
     let a = ((c)).args in
-    c.unpack.new.1.1.1.0 ≡ row (integers_behind a.section.now a.bits c.loop-done.done) c.block_length-count.result
+    c.unpack.new.block ≡ row (integers_behind a.section.now a.bits c.loop-done.done) c.block_length-count.result
 unpacked c =
     let lent_part : (length (take (c.block_length-count.result - 0) c.loop-done.block) ≡ c.block_length-count.result) = let few : (let l = c.loop-done in let n = c.block_length-count.result in (n ≤ ((c)).args.n - l.done) × (n ≤ 56) × (1 ≤ n) × (((c)).args.n ≤ 16777216)) = let l = c.loop-done in let s = (c) in let within = block_within (s.args.n - l.done) c.block_length-count.ensures (omega (arith, c.loop-done-test.true)) in (within.0, within.1, within.2, omega (arith, s.pre, rank_most (ranked s.args.bitmap.now) (length s.args.values.now))) in let l = c.loop-done in part_length l.block (omega (arith, (few).1, l.invariant.1)) in
     rw (lent_part) at c.unpack.ensures
 
-as_long : (c : After-unpack) → length c.unpack.new.1.1.1.0 ≡ c.block_length-count.result
+as_long : (c : After-unpack) → length c.unpack.new.block ≡ c.block_length-count.result
 as_long c =
     let a = ((c)).args in
     ap length (unpacked c) ∙ row_length (integers_behind a.section.now a.bits c.loop-done.done) c.block_length-count.result
 
 whole_block : (c : After-unpack) →
-    length (put_mid 0 (c.block_length-count.result - 0) c.loop-done.block c.unpack.new.1.1.1.0) ≡ 56
+    length (put_mid 0 (c.block_length-count.result - 0) c.loop-done.block c.unpack.new.block) ≡ 56
 whole_block c =
     let lent_part : (length (take (c.block_length-count.result - 0) c.loop-done.block) ≡ c.block_length-count.result) = let few : (let l = c.loop-done in let n = c.block_length-count.result in (n ≤ ((c)).args.n - l.done) × (n ≤ 56) × (1 ≤ n) × (((c)).args.n ≤ 16777216)) = let l = c.loop-done in let s = (c) in let within = block_within (s.args.n - l.done) c.block_length-count.ensures (omega (arith, c.loop-done-test.true)) in (within.0, within.1, within.2, omega (arith, s.pre, rank_most (ranked s.args.bitmap.now) (length s.args.values.now))) in let l = c.loop-done in part_length l.block (omega (arith, (few).1, l.invariant.1)) in
     let l = c.loop-done in
-    same_len_mid 0 (c.block_length-count.result - 0) l.block c.unpack.new.1.1.1.0 (as_long c ∙ sym (lent_part)) ∙ l.invariant.1
+    same_len_mid 0 (c.block_length-count.result - 0) l.block c.unpack.new.block (as_long c ∙ sym (lent_part)) ∙ l.invariant.1
 
 zeros_again : (c : After-unpack) →
-    ((c)).args.bits ≡ 0 → put_mid 0 (c.block_length-count.result - 0) c.loop-done.block c.unpack.new.1.1.1.0 ≡ row (λ _. 0) 56
+    ((c)).args.bits ≡ 0 → put_mid 0 (c.block_length-count.result - 0) c.loop-done.block c.unpack.new.block ≡ row (λ _. 0) 56
 zeros_again c none =
     let l = c.loop-done in
     let a = ((c)).args in
@@ -94,8 +94,8 @@ zeros_again c none =
     ap (put_mid 0 n l.block) (zeros_stay a.section.now a.bits l.done (take n l.block) none (zeros c) c.unpack.ensures) ∙ put_same 0 n l.block ∙ l.invariant.2 none
 
 part_here : (c : After-unpack) →
-    take (c.block_length-count.result - 0) (put_mid 0 (c.block_length-count.result - 0) c.loop-done.block c.unpack.new.1.1.1.0) ≡ c.unpack.new.1.1.1.0
-part_here c = part_back c.loop-done.block c.unpack.new.1.1.1.0 (as_long c)
+    take (c.block_length-count.result - 0) (put_mid 0 (c.block_length-count.result - 0) c.loop-done.block c.unpack.new.block) ≡ c.unpack.new.block
+part_here c = part_back c.loop-done.block c.unpack.new.block (as_long c)
 
 pub slice_bounds-write-end : goal.slice_bounds-write-end
 slice_bounds-write-end c =
@@ -107,13 +107,13 @@ write-point-requires c =
     let s = Entry (goal.at.write-point-requires c).At-loop-done in
     let bitmap = s.args.bitmap.now in
     let part = ap length (part_here (goal.at.write-point-requires c).After-unpack) ∙ as_long (goal.at.write-point-requires c).After-unpack in
-    let all = ap (marks_in bitmap).rank l.invariant.3 in (
-      (omega (arith, l.invariant.3, l.invariant.4, s.pre.0.0), omega (arith, l.invariant.3, s.pre.0.1), λ some. omega (arith, l.invariant.3, s.pre.0.2 some)),
-      (
+    let all = ap (marks_in bitmap).rank l.invariant.3 in record {
+      room = (omega (arith, l.invariant.3, l.invariant.4, s.pre.0.0), omega (arith, l.invariant.3, s.pre.0.1), λ some. omega (arith, l.invariant.3, s.pre.0.2 some));
+      points_left = (
         (omega (arith, l.invariant.5.past.within, l.invariant.3), omega (arith, part, (few (goal.at.write-point-requires c).After-block_length-count).0, l.invariant.0, l.invariant.5.past.used, (ranked bitmap).none, all, s.pre.2)),
         omega (arith, part, (few (goal.at.write-point-requires c).After-block_length-count).1),
-      ),
-    )
+      );
+    }
 
 pub overflow_add-done : goal.overflow_add-done
 overflow_add-done c = omega (arith, few (goal.at.overflow_add-done c).After-block_length-count, c.loop-done.invariant.0)
@@ -128,7 +128,7 @@ loop-done-preserved c =
     let a = (Entry (goal.at.loop-done-preserved c).At-loop-done).args in
     let n = c.block_length-count.result in
     let bitmap = a.bitmap.now in
-    let part = c.unpack.new.1.1.1.0 in
+    let part = c.unpack.new.block in
     let written = rw (part_here (goal.at.loop-done-preserved c).After-unpack, as_long (goal.at.loop-done-preserved c).After-unpack) at c.write-point.ensures in
     let same = block_integers a.section.now l.done n part (Entry (goal.at.loop-done-preserved c).At-loop-done).pre.1 (unpacked (goal.at.loop-done-preserved c).After-unpack) in (
       omega (arith, (few (goal.at.loop-done-preserved c).After-block_length-count).0, l.invariant.0),
@@ -141,10 +141,7 @@ loop-done-preserved c =
 
 pub clear_missing-requires : goal.clear_missing-requires
 clear_missing-requires c =
-    let s = Entry (goal.at.clear_missing-requires c).At-loop-done in (
-      (omega (arith, c.loop-done.invariant.3, c.loop-done.invariant.4, s.pre.0.0), omega (arith, c.loop-done.invariant.3, s.pre.0.1), λ some. omega (arith, c.loop-done.invariant.3, s.pre.0.2 some)),
-      omega (arith, c.loop-done.invariant.5.past.within, c.loop-done.invariant.3),
-    )
+    let s = Entry (goal.at.clear_missing-requires c).At-loop-done in record { room = (omega (arith, c.loop-done.invariant.3, c.loop-done.invariant.4, s.pre.0.0), omega (arith, c.loop-done.invariant.3, s.pre.0.1), λ some. omega (arith, c.loop-done.invariant.3, s.pre.0.2 some)); point_in_bounds = omega (arith, c.loop-done.invariant.5.past.within, c.loop-done.invariant.3) }
 
 pub returns : goal.returns
 returns c =

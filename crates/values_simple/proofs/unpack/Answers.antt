@@ -33,7 +33,7 @@ foured c = fours_foured _ _ _ _ c.fours_in-fours.ensures
 
 pub unpack_fours-next-requires : goal.unpack_fours-next-requires
 unpack_fours-next-requires c =
-    ((omega (arith, low (goal.at.unpack_fours-next-requires c).After-first_bit-start), omega (arith, c.requires.2)), foured (goal.at.unpack_fours-next-requires c).After-fours_in-fours)
+    record { first_bound = (omega (arith, low (goal.at.unpack_fours-next-requires c).After-first_bit-start), omega (arith, c.requires.2)); foured = foured (goal.at.unpack_fours-next-requires c).After-fours_in-fours }
 
 pub overflow_mul-fours : goal.overflow_mul-fours
 overflow_mul-fours c = omega (arith, (foured (goal.at.overflow_mul-fours c).After-fours_in-fours).few, c.requires.2)
@@ -42,10 +42,10 @@ pub unpack_each-requires : goal.unpack_each-requires
 unpack_each-requires c =
     let few : 4 * c.fours_in-fours.result ≤ 16777216 = omega (arith, (foured (goal.at.unpack_each-requires c).After-fours_in-fours).few, c.requires.2) in
     let most : 4 * c.fours_in-fours.result * c.args.bits ≤ 520093696 = mul-le-mul few c.requires.0 in
-    omega (arith, low (goal.at.unpack_each-requires c).After-first_bit-start, c.unpack_fours-next.ensures.0, c.unpack_fours-next.auto, (foured (goal.at.unpack_each-requires c).After-fours_in-fours).few, most, c.requires)
+    omega (arith, low (goal.at.unpack_each-requires c).After-first_bit-start, c.unpack_fours-next.ensures.result_value, c.unpack_fours-next.auto, (foured (goal.at.unpack_each-requires c).After-fours_in-fours).few, most, c.requires)
 
 pub returns : goal.returns
 returns c =
     let start = ap (λ (n : ℕ). n + c.args.done * c.args.bits) c.first_bit-start.ensures in
-    all_unpacked c.args.section.now c.args.bits c.args.done c.args.block.now (4 * c.fours_in-fours.result) _ _ (foured (goal.at.returns c).After-fours_in-fours).few start c.unpack_fours-next.ensures.0
-    c.unpack_fours-next.ensures.1 c.unpack_each.ensures
+    all_unpacked c.args.section.now c.args.bits c.args.done c.args.block.now (4 * c.fours_in-fours.result) _ _ (foured (goal.at.returns c).After-fours_in-fours).few start c.unpack_fours-next.ensures.result_value
+    c.unpack_fours-next.ensures.block_after c.unpack_each.ensures

@@ -21,14 +21,14 @@ turn : (c : In-loop-i) →
     (l.i + 4 ≤ 4 * c.args.fours) × (l.i + 4 ≤ length l.block) × (c.args.bits ≤ 28)
 turn c =
     let l = c.loop-i in
-    let foured = c.requires.1 in
+    let foured = c.requires.foured in
     let inside : l.i + 4 ≤ 4 * c.args.fours = omega (arith, l.invariant.1, c.loop-i-test.true) in
     (inside, omega (arith, inside, foured.few, l.invariant.2), foured.narrow (omega (arith, inside)))
 
 pub four_at-taken-requires : goal.four_at-taken-requires
 four_at-taken-requires c =
     let l = c.loop-i in
-    (four_inside l.i c.requires.1 (turn (goal.at.four_at-taken-requires c).In-loop-i).0 l.invariant.3, (turn (goal.at.four_at-taken-requires c).In-loop-i).2, omega (arith, turn (goal.at.four_at-taken-requires c).In-loop-i, l.invariant.2, l.invariant.4, c.requires.0))
+    (four_inside l.i c.requires.foured (turn (goal.at.four_at-taken-requires c).In-loop-i).0 l.invariant.3, (turn (goal.at.four_at-taken-requires c).In-loop-i).2, omega (arith, turn (goal.at.four_at-taken-requires c).In-loop-i, l.invariant.2, l.invariant.4, c.requires.first_bound))
 
 pub bounds-block-i : goal.bounds-block-i
 bounds-block-i c = omega (arith, turn (goal.at.bounds-block-i c).In-loop-i)
@@ -63,4 +63,4 @@ returns c =
     let l = c.loop-i in
     let a = c.args in
     let all : l.i ≡ 4 * a.fours = omega arith in
-    (rw all at l.invariant.3, rw all at l.invariant.5)
+    record { result_value = rw all at l.invariant.3; block_after = rw all at l.invariant.5 }
