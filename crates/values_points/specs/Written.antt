@@ -2,7 +2,7 @@
 -- are present, in order.
 use Rattle.std.specs.Prelude.{ℕ, ◌+◌, ◌-◌, ◌*◌, ◌/◌, ◌%◌, ◌^◌, ◌≤◌, ◌<◌, ◌≡◌, Bool, true, false, ◌&&◌, cond, eqb, leb, ltb, List, [], ◌∷◌, pos, length, get_or, Float}
 use Rattle.std.specs.Float.{fin}
-use Rattle.std.specs.Borrow.{Bor}
+use Rattle.std.specs.Borrow.{MutBor}
 use denote.Triple.Both.{Both}
 use Rattle.laws_rows.specs.Rows.{row, filled}
 use Rattle.bits.specs.Bits.{bit_at, bits_at}
@@ -37,7 +37,7 @@ abbrev pub runs : List Float → List ℕ → Runs
 runs doubles marks = record { doubles = doubles; marks = marks }
 
 -- The two runs of a contract as they were lent, and as they are left.
-module _ (values : Both (Bor (List Float)) (Bor (List Float))) (presence : Both (Bor (List ℕ)) (Bor (List ℕ))) where
+module _ (values : Both (MutBor (List Float)) (MutBor (List Float))) (presence : Both (MutBor (List ℕ)) (MutBor (List ℕ))) where
   abbrev pub lent : Runs
   lent = runs values.entry.now presence.entry.now
 

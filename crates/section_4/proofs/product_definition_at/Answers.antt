@@ -17,7 +17,7 @@ use Rattle.section_4.proofs.product_definition_at.Goals as goal
 pub returns-then-not-is_product : goal.returns-then-not-is_product
 returns-then-not-is_product c =
     let tested = c.is_product in
-    sym (no_product _ _ _ (sym tested.ensures ∙ not-true tested.result c.if-not-is_product.true))
+    sym (no_product _ _ _ (sym tested.ensures ∙ c.if-not-is_product.true))
 
 -- Behind the first test it is a product, and so its template is known and it has at least 34 octets.
 is : (c : Else-not-is_product) → let a = c.args in is_product a.file.now a.at.0 ≡ true

@@ -13,7 +13,7 @@ returns c =
     let piece = c.put in
     let spelled = c.spell-start in
     let a = c.args in
-    let digits = spelled.new.1.0 in
+    let digits = spelled.new.digits in
     let start = spelled.result in
     let part : take (length digits - start) (drop start digits) ≡ decimal a.n = part_to_end digits start ∙ spelled.ensures.0 in
-    subst (λ (octets : List ℕ). Puts a.run.now a.at octets piece.new.0 piece.result) part piece.ensures
+    subst (λ (octets : List ℕ). Puts a.run.now a.at octets piece.new.run piece.result) part piece.ensures

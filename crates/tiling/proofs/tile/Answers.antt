@@ -17,8 +17,7 @@ loop-at-init c =
 taken : (c : In-Fields) →
     let a = c.args in
     let l = c.loop-at in
-    let given = c.count-1.given.0 in
-    Taken a.file.now l.at.0 (a.k - l.fields) given.0 given.1.0.0 given.1.1.0
+    Taken a.file.now l.at.0 (a.k - l.fields) c.in-Fields.count c.in-Fields.next.0 c.in-Fields.hit
 taken c =
     message_taken _ _ _ c.loop-at.invariant.inside
     (rw c.from_here.ensures at (sym c.message_at.ensures ∙ c.in-Fields.is))

@@ -101,25 +101,21 @@ bounds-greys-i-in-loop-i-3 c = simp length-set (search rules)
 
 pub loop-i-preserved : goal.loop-i-preserved
 loop-i-preserved c =
-    let g1 = c in
-    let e1 = g1.before in
-    let x = e1.before in
-    let t = x.before.before.before.before in
-    let l = t.before.before.loop in
-    let a = t.before.before.before.before.before.before.before.args in
+    let l = c.loop-i in
+    let a = c.args in
     let grey : ℕ → ℕ = grey_of a.scale.largest in
-    let f : ℕ → ℕ = packed_grey a.scale (integer_by (Way x)) in
+    let f : ℕ → ℕ = packed_grey a.scale (integer_by (Way (goal.at.loop-i-preserved c).After-integer_behind-last)) in
     let greys = filled_four f l.i a.greys.now l.greys l.invariant.6
-    (g1.grey-of.ensures ∙ ap grey (own x l.i (omega arith) e1.element.ensures (four x).first).0)
-    (c.grey_of-in-loop-i.ensures ∙ ap grey (own x (l.i + 1) (omega arith) c.element-in-loop-i.ensures (four x).second).0)
-    (c.grey_of-in-loop-i-2.ensures ∙ ap grey (own x (l.i + 2) (omega arith) c.element-in-loop-i-2.ensures (four x).third).0)
-    (c.grey_of-in-loop-i-3.ensures ∙ ap grey (own x (l.i + 3) (omega arith) c.element-in-loop-i-3.ensures (four x).fourth).0) in (
-      turn t.before,
+    (c.grey_of.ensures ∙ ap grey (own (goal.at.loop-i-preserved c).After-integer_behind-last l.i (omega arith) c.element.ensures (four (goal.at.loop-i-preserved c).After-integer_behind-last).first).0)
+    (c.grey_of-in-loop-i.ensures ∙ ap grey (own (goal.at.loop-i-preserved c).After-integer_behind-last (l.i + 1) (omega arith) c.element-in-loop-i.ensures (four (goal.at.loop-i-preserved c).After-integer_behind-last).second).0)
+    (c.grey_of-in-loop-i-2.ensures ∙ ap grey (own (goal.at.loop-i-preserved c).After-integer_behind-last (l.i + 2) (omega arith) c.element-in-loop-i-2.ensures (four (goal.at.loop-i-preserved c).After-integer_behind-last).third).0)
+    (c.grey_of-in-loop-i-3.ensures ∙ ap grey (own (goal.at.loop-i-preserved c).After-integer_behind-last (l.i + 3) (omega arith) c.element-in-loop-i-3.ensures (four (goal.at.loop-i-preserved c).After-integer_behind-last).fourth).0) in (
+      turn (goal.at.loop-i-preserved c).In-loop-i,
       omega (arith, l.invariant.1),
       l.invariant.2,
       l.invariant.3,
       ap length greys ∙ filled_length f 0 (l.i + 4) a.greys.now,
-      (four x).reached,
+      (four (goal.at.loop-i-preserved c).After-integer_behind-last).reached,
       greys,
     )
 

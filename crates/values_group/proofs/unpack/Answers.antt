@@ -73,7 +73,7 @@ returns c =
     let told = rw (same_block (goal.at.returns c).After-unpack_fours-last) at c.unpack_each.ensures in
     let goes = c.unpack_fours-last.ensures.group_goes in
     rw (← c.behind-rest.ensures) (record {
-      group_goes = sym (behind_all a.section.now g a.latest.x a.latest.before done goes (foured (goal.at.returns c).After-fours_in-fours).few) ∙ told.0;
+      group_goes = sym (behind_all a.section.now g a.latest.x a.latest.before done goes (foured (goal.at.returns c).After-fours_in-fours).few) ∙ told.group_goes;
       block_after = block_joined a.section.now g a.latest.x a.latest.before done goes a.block.now
-          (foured (goal.at.returns c).After-fours_in-fours).few refl c.unpack_fours-last.ensures.block_after told.1;
+          (foured (goal.at.returns c).After-fours_in-fours).few refl c.unpack_fours-last.ensures.block_after told.block_after;
     })

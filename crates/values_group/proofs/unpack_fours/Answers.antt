@@ -42,18 +42,14 @@ bounds-block-i-in-loop-i-3 c = simp length-set (search rules)
 
 pub loop-i-preserved : goal.loop-i-preserved
 loop-i-preserved c =
-    let x2 = c in
-    let x1 = x2.before in
-    let f = x1.before in
-    let l = f.before.before.loop in
-    let g = f.before.before.before.before.gain-of in
-    let s = f.before.before.before.before.before.before.before in
-    let kept = tested_kept s.args.section.now s.args.group g.result s.requires.0.0 g.ensures s.requires.1.1 in
+    let l = c.loop-i in
+    let g = c.gain_of-gain in
+    let kept = tested_kept c.args.section.now c.args.group g.result c.requires.limits.0 g.ensures c.requires.group_kept in
     let held =
-    four_held f.four-at.ensures l.i l.invariant.5 (λ k h. kept k (omega (arith, h, turn f.before)))
-    x1.integer-behind.ensures x2.integer-behind2.ensures c.integer_behind-three.ensures c.integer_behind-last.ensures
+    four_held c.four_at-taken.ensures l.i l.invariant.5 (λ k h. kept k (omega (arith, h, turn (goal.at.loop-i-preserved c).In-loop-i)))
+    c.integer_behind-one.ensures c.integer_behind-two.ensures c.integer_behind-three.ensures c.integer_behind-last.ensures
     c.element.ensures c.element-in-loop-i.ensures c.element-in-loop-i-2.ensures c.element-in-loop-i-3.ensures in
-    (turn f.before, omega (arith, l.invariant.1), l.invariant.2, l.invariant.3, held_length held, held)
+    (turn (goal.at.loop-i-preserved c).In-loop-i, omega (arith, l.invariant.1), l.invariant.2, l.invariant.3, held_length held, held)
 
 pub shape_of-block : goal.shape_of-block
 shape_of-block c = c.loop-i.invariant.4

@@ -21,14 +21,11 @@ four_at-taken-requires c =
 
 pub loop-done-preserved : goal.loop-done-preserved
 loop-done-preserved c =
-    let second = c in
-    let first = second.before in
-    let f = first.before in
-    let l = f.before.before.loop in
-    let four = four_looked f.four-at.ensures l.invariant.0
-    first.integer-behind.ensures second.integer-behind2.ensures c.integer_behind-third.ensures c.integer_behind-fourth.ensures
+    let l = c.loop-done in
+    let four = four_looked c.four_at-taken.ensures l.invariant.0
+    c.integer_behind-first.ensures c.integer_behind-second.ensures c.integer_behind-third.ensures c.integer_behind-fourth.ensures
     c.larger.ensures c.larger-in-loop-done.ensures c.larger-in-loop-done-2.ensures c.larger-largest.ensures in
-    (looked_as four (omega arith) refl, omega (arith, f.before.loop-test.true))
+    (looked_as four (omega arith) refl, omega (arith, c.loop-done-test.true))
 
 pub returns-then-largest-gt2147483647 : goal.returns-then-largest-gt2147483647
 returns-then-largest-gt2147483647 c =
