@@ -91,10 +91,10 @@ module _ (file : List ℕ) (e : ℕ) where
   abbrev Passes : ℕ → ℕ → ℕ → ℕ → ℕ → Bitmap → ℕ → List Located → Type 0
   Passes after a start one three bitmap b fs = (s : Starts) (before : List Located) (t : InMessage) → GoesOn start one b (before ++ fs) t → Goes (walking_at a after (in_force start one three bitmap s) before) t
 
-  fields_go : (after : ℕ) {a b start one three : ℕ} {bitmap : Bitmap} {fs : List Located} → Fields file start one three bitmap a b fs → b ≤ e → follows after 4 ≡ true → Passes after a start one three bitmap b fs
-  fields_go after {start} {one} {three} {bitmap} (Grammar.Fields.last f) inside allowed s before t on =
+  fields_go : {start one three : ℕ} (after : ℕ) {a b : ℕ} {bitmap : Bitmap} {fs : List Located} → Fields file start one three bitmap a b fs → b ≤ e → follows after 4 ≡ true → Passes after a start one three bitmap b fs
+  fields_go {start} {one} {three} after {bitmap} (Grammar.Fields.last f) inside allowed s before t on =
       field_goes after f inside allowed start one three bitmap s before (on three (bitmap_of bitmap f) (located_at start one three bitmap f).starts)
-  fields_go after {b} {start} {one} {three} {bitmap} (Grammar.Fields.more {fs} f r) inside allowed s before t on =
+  fields_go {start} {one} {three} after {b} {bitmap} (Grammar.Fields.more {fs} f r) inside allowed s before t on =
       let l : Located = located_at start one three bitmap f in
       field_goes after f (omega (arith, fields_grow r)) allowed start one three bitmap s before
       (fields_go 7 r inside refl l.starts (before ++ (l ∷ [])) t (subst⁻¹ (λ (gs : List Located). GoesOn start one b gs t) (append_assoc before (l ∷ []) fs) on))
@@ -104,9 +104,9 @@ module _ (file : List ℕ) (e : ℕ) where
   grid_goes after g inside allowed three bitmap s before t on =
       section_goes g.three (omega (arith, fields_grow g.fields)) allowed (fields_go 3 g.fields inside refl s before t on)
 
-  grids_go : (after : ℕ) {a b start one : ℕ} {fs : List Located} → GridParts file start one a b fs → b ≤ e → follows after 3 ≡ true → (three : ℕ) (bitmap : Bitmap) → Passes after a start one three bitmap b fs
+  grids_go : {start one : ℕ} (after : ℕ) {a b : ℕ} {fs : List Located} → GridParts file start one a b fs → b ≤ e → follows after 3 ≡ true → (three : ℕ) (bitmap : Bitmap) → Passes after a start one three bitmap b fs
   grids_go after (Grammar.GridParts.last g) inside allowed three bitmap s before t on = grid_goes after g inside allowed three bitmap s before t on
-  grids_go after {b} {start} {one} (Grammar.GridParts.more {fs} {gs} g r) inside allowed three bitmap s before t on =
+  grids_go {start} {one} after {b} (Grammar.GridParts.more {fs} {gs} g r) inside allowed three bitmap s before t on =
       grid_goes after g (omega (arith, grids_grow r)) allowed three bitmap s before t
       (λ three' bitmap' s'.
       grids_go 7 r inside refl three' bitmap' s' (before ++ fs) t (subst⁻¹ (λ (hs : List Located). GoesOn start one b hs t) (append_assoc before fs gs) on))

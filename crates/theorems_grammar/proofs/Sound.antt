@@ -34,7 +34,7 @@ module _ (file : List ℕ) (e : ℕ) where
   first : {w : Walking} {all : List Located} → Goes file e w (passed (e + 4) all) → First w all
   first {w} (halts h) = by (subst (Walks file e w) h (walks file e w))
     where
-      by : {all : List Located} → Walks file e w (stop (passed (e + 4) all)) → First w all
+      by : {end : ℕ} {all : List Located} → Walks file e w (stop (passed end all)) → First w all
       by (walk.end (Stands.ends i j)) = ended i j
   first {w} (steps h r) = by (subst (Walks file e w) h (walks file e w)) r
     where

@@ -17,25 +17,22 @@ use Rattle.listing_file.proofs.list.Goals as goal
 abbrev fields : After-put_decimal-word → ℕ
 fields c = c.in-Counts.fields
 
-abbrev start : After-put_decimal-word → After-put_decimal-word
-start c = c
-
-short : (c : After-put_decimal-word) → length (start c).args.input.now ≤ most_octets
+short : (c : After-put_decimal-word) → length c.args.input.now ≤ most_octets
 short c = omega arith
 
-taken : (c : After-put_decimal-word) → check (start c).args.input.now ≡ Checked.Counts c.in-Counts.messages (fields c)
+taken : (c : After-put_decimal-word) → check c.args.input.now ≡ Checked.Counts c.in-Counts.messages (fields c)
 taken c = sym c.check.ensures ∙ c.in-Counts.is
 
 few : (c : After-put_decimal-word) → fields c ≤ 3276
-few c = few_fields_lem (start c).args.input.now _ (fields c) (short c) (taken c)
+few c = few_fields_lem c.args.input.now _ (fields c) (short c) (taken c)
 
-told_number : (c : After-put_decimal-word) → Told (start c).args.run.now 0 (decimal (fields c)) 655340 c.put_decimal-word.new.run c.put_decimal-word.result
-told_number c = told-then (decimal (fields c)) 20 655340 (told_none _ _ 655360 (start c).requires) (decimal_short _) c.put_decimal-word.ensures
+told_number : (c : After-put_decimal-word) → Told c.args.run.now 0 (decimal (fields c)) 655340 c.put_decimal-word.new.run c.put_decimal-word.result
+told_number c = told-then (decimal (fields c)) 20 655340 (told_none _ _ 655360 c.requires) (decimal_short _) c.put_decimal-word.ensures
 
 -- The count's line, behind which there is room for the lines of all fields.
-told_count : (c : After-put-first) → Told ((c)).args.run.now 0 (count_text ((c.in-Counts.fields))) 655332 c.put-first.new.run c.put-first.result
+told_count : (c : After-put-first) → Told c.args.run.now 0 (count_text ((c.in-Counts.fields))) 655332 c.put-first.new.run c.put-first.result
 told_count c =
-    let told_number : (Told ((c)).args.run.now 0 (decimal ((c.in-Counts.fields))) 655340 c.put_decimal-word.new.run c.put_decimal-word.result) = told-then (decimal ((c.in-Counts.fields))) 20 655340 (told_none _ _ 655360 ((c)).requires) (decimal_short _) c.put_decimal-word.ensures in
+    let told_number : (Told c.args.run.now 0 (decimal ((c.in-Counts.fields))) 655340 c.put_decimal-word.new.run c.put_decimal-word.result) = told-then (decimal ((c.in-Counts.fields))) 20 655340 (told_none _ _ 655360 c.requires) (decimal_short _) c.put_decimal-word.ensures in
     told-then (ascii " fields\n") 8 655332 (told_number) (omega arith) c.put-first.ensures
 
 pub returns-then-input-gt65536 : goal.returns-then-input-gt65536
@@ -50,7 +47,7 @@ put_lines-requires c =
 
 pub returns-in-Counts : goal.returns-in-Counts
 returns-in-Counts c =
-    let input = (start (goal.at.returns-in-Counts c).After-put_decimal-word).args.input.now in
+    let input = c.args.input.now in
     let n = fields (goal.at.returns-in-Counts c).After-put_decimal-word in
     let lines_fit : length (lines_of input n) ≤ 655332 = omega (arith, lines_short input n, few (goal.at.returns-in-Counts c).After-put_decimal-word) in
     let all = told-then (lines_of input n) 655332 0 (told_count (goal.at.returns-in-Counts c).After-put-first) lines_fit c.put_lines.ensures in

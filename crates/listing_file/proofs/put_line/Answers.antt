@@ -29,30 +29,27 @@ answer s = answer_text (describe s.args.file.now s.args.k)
 abbrev line : Start → List ℕ
 line s = space s ++ answer s ++ ascii "\n"
 
-abbrev start_number : After-put_decimal-number → After-put_decimal-number
-start_number c = c
-
-told_number : (c : After-put_decimal-number) → Stands (start_number c) (number (start_number c)) 172 c.put_decimal-number.new.run c.put_decimal-number.result
-told_number c = told-then (number (start_number c)) 20 172 (told_none _ _ 192 (start_number c).requires) (decimal_short _) c.put_decimal-number.ensures
+told_number : (c : After-put_decimal-number) → (Told c.args.run.now c.args.at) ((decimal c.args.k)) 172 c.put_decimal-number.new.run c.put_decimal-number.result
+told_number c = told-then ((decimal c.args.k)) 20 172 (told_none _ _ 192 c.requires) (decimal_short _) c.put_decimal-number.ensures
 
 abbrev start_space : After-put-answer → After-put-answer
-start_space c = (c)
+start_space c = c
 
 told_space : (c : After-put-answer) → Stands (start_space c) (space (start_space c)) 171 c.put-answer.new.run c.put-answer.result
 told_space c =
-    let told_number : (Stands ((c)) (number ((c))) 172 c.put_decimal-number.new.run c.put_decimal-number.result) = told-then (number ((c))) 20 172 (told_none _ _ 192 ((c)).requires) (decimal_short _) c.put_decimal-number.ensures in
+    let told_number : ((Told c.args.run.now c.args.at) ((decimal c.args.k)) 172 c.put_decimal-number.new.run c.put_decimal-number.result) = told-then ((decimal c.args.k)) 20 172 (told_none _ _ 192 c.requires) (decimal_short _) c.put_decimal-number.ensures in
     told-then (ascii " ") 1 171 (told_number) (omega arith) c.put-answer.ensures
 
 -- The answer is a description.
 abbrev start_field : After-put_field-told → After-put_field-told
-start_field c = ((c))
+start_field c = (c)
 
 described : (c : After-put_field-told) → describe (start_field c).args.file.now (start_field c).args.k ≡ Described.As c.in-As.description
 described c = sym c.describe.ensures ∙ c.in-As.is
 
 told_field : (c : After-put_field-told) → Stands (start_field c) (space (start_field c) ++ answer (start_field c)) 10 c.put_field-told.new.run c.put_field-told.result
 told_field c =
-    let told_space : (Stands (((c))) (space (((c)))) 171 c.put-answer.new.run c.put-answer.result) = let told_number : (Stands ((c)) (number ((c))) 172 c.put_decimal-number.new.run c.put_decimal-number.result) = told-then (number ((c))) 20 172 (told_none _ _ 192 ((c)).requires) (decimal_short _) c.put_decimal-number.ensures in told-then (ascii " ") 1 171 (told_number) (omega arith) c.put-answer.ensures in
+    let told_space : (Stands ((c)) (space ((c))) 171 c.put-answer.new.run c.put-answer.result) = let told_number : ((Told c.args.run.now c.args.at) ((decimal c.args.k)) 172 c.put_decimal-number.new.run c.put_decimal-number.result) = told-then ((decimal c.args.k)) 20 172 (told_none _ _ 192 c.requires) (decimal_short _) c.put_decimal-number.ensures in told-then (ascii " ") 1 171 (told_number) (omega arith) c.put-answer.ensures in
     told-then
     (answer (start_field c))
     161
@@ -61,21 +58,21 @@ told_field c =
     (answer_short (describe (start_field c).args.file.now (start_field c).args.k))
     (rw (described c) c.put_field-told.ensures)
 
-told_line : (c : After-put) → let s = (((c))) in Stands s (line s) 9 c.put.new.run c.put.result
+told_line : (c : After-put) → let s = ((c)) in Stands s (line s) 9 c.put.new.run c.put.result
 told_line c =
-    let told_field : (Stands ((((c)))) (space ((((c)))) ++ answer ((((c))))) 10 c.put_field-told.new.run c.put_field-told.result) = let told_space : (Stands (((c))) (space (((c)))) 171 c.put-answer.new.run c.put-answer.result) = let told_number : (Stands ((c)) (number ((c))) 172 c.put_decimal-number.new.run c.put_decimal-number.result) = told-then (number ((c))) 20 172 (told_none _ _ 192 ((c)).requires) (decimal_short _) c.put_decimal-number.ensures in told-then (ascii " ") 1 171 (told_number) (omega arith) c.put-answer.ensures in let described : (describe ((((c)))).args.file.now ((((c)))).args.k ≡ Described.As c.in-As.description) = sym c.describe.ensures ∙ c.in-As.is in told-then (answer ((((c))))) 161 10 (told_space) (answer_short (describe ((((c)))).args.file.now ((((c)))).args.k)) (rw (described) c.put_field-told.ensures) in
+    let told_field : (Stands (((c))) (space (((c))) ++ answer (((c)))) 10 c.put_field-told.new.run c.put_field-told.result) = let told_space : (Stands ((c)) (space ((c))) 171 c.put-answer.new.run c.put-answer.result) = let told_number : ((Told c.args.run.now c.args.at) ((decimal c.args.k)) 172 c.put_decimal-number.new.run c.put_decimal-number.result) = told-then ((decimal c.args.k)) 20 172 (told_none _ _ 192 c.requires) (decimal_short _) c.put_decimal-number.ensures in told-then (ascii " ") 1 171 (told_number) (omega arith) c.put-answer.ensures in let described : (describe (((c))).args.file.now (((c))).args.k ≡ Described.As c.in-As.description) = sym c.describe.ensures ∙ c.in-As.is in told-then (answer (((c)))) 161 10 (told_space) (answer_short (describe (((c))).args.file.now (((c))).args.k)) (rw (described) c.put_field-told.ensures) in
     told-then (ascii "\n") 1 9 (told_field) (omega arith) c.put.ensures
 
 -- The answer is a refusal.
 abbrev start_refusal : After-put_refusal-told → After-put_refusal-told
-start_refusal c = ((c))
+start_refusal c = (c)
 
 refused : (c : After-put_refusal-told) → describe (start_refusal c).args.file.now (start_refusal c).args.k ≡ Described.Refused c.in-Refused.refusal
 refused c = sym c.describe.ensures ∙ c.in-Refused.is
 
 told_refusal : (c : After-put_refusal-told) → Stands (start_refusal c) (space (start_refusal c) ++ answer (start_refusal c)) 10 c.put_refusal-told.new.run c.put_refusal-told.result
 told_refusal c =
-    let told_space : (Stands (((c))) (space (((c)))) 171 c.put-answer.new.run c.put-answer.result) = let told_number : (Stands ((c)) (number ((c))) 172 c.put_decimal-number.new.run c.put_decimal-number.result) = told-then (number ((c))) 20 172 (told_none _ _ 192 ((c)).requires) (decimal_short _) c.put_decimal-number.ensures in told-then (ascii " ") 1 171 (told_number) (omega arith) c.put-answer.ensures in
+    let told_space : (Stands ((c)) (space ((c))) 171 c.put-answer.new.run c.put-answer.result) = let told_number : ((Told c.args.run.now c.args.at) ((decimal c.args.k)) 172 c.put_decimal-number.new.run c.put_decimal-number.result) = told-then ((decimal c.args.k)) 20 172 (told_none _ _ 192 c.requires) (decimal_short _) c.put_decimal-number.ensures in told-then (ascii " ") 1 171 (told_number) (omega arith) c.put-answer.ensures in
     told-then
     (answer (start_refusal c))
     161
@@ -84,9 +81,9 @@ told_refusal c =
     (answer_short (describe (start_refusal c).args.file.now (start_refusal c).args.k))
     (rw (refused c) c.put_refusal-told.ensures)
 
-told_refused_line : (c : After-put-in-Refused) → let s = (((c))) in Stands s (line s) 9 c.put-in-Refused.new.run c.put-in-Refused.result
+told_refused_line : (c : After-put-in-Refused) → let s = ((c)) in Stands s (line s) 9 c.put-in-Refused.new.run c.put-in-Refused.result
 told_refused_line c =
-    let told_refusal : (Stands ((((c)))) (space ((((c)))) ++ answer ((((c))))) 10 c.put_refusal-told.new.run c.put_refusal-told.result) = let told_space : (Stands (((c))) (space (((c)))) 171 c.put-answer.new.run c.put-answer.result) = let told_number : (Stands ((c)) (number ((c))) 172 c.put_decimal-number.new.run c.put_decimal-number.result) = told-then (number ((c))) 20 172 (told_none _ _ 192 ((c)).requires) (decimal_short _) c.put_decimal-number.ensures in told-then (ascii " ") 1 171 (told_number) (omega arith) c.put-answer.ensures in let refused : (describe ((((c)))).args.file.now ((((c)))).args.k ≡ Described.Refused c.in-Refused.refusal) = sym c.describe.ensures ∙ c.in-Refused.is in told-then (answer ((((c))))) 161 10 (told_space) (answer_short (describe ((((c)))).args.file.now ((((c)))).args.k)) (rw (refused) c.put_refusal-told.ensures) in
+    let told_refusal : (Stands (((c))) (space (((c))) ++ answer (((c)))) 10 c.put_refusal-told.new.run c.put_refusal-told.result) = let told_space : (Stands ((c)) (space ((c))) 171 c.put-answer.new.run c.put-answer.result) = let told_number : ((Told c.args.run.now c.args.at) ((decimal c.args.k)) 172 c.put_decimal-number.new.run c.put_decimal-number.result) = told-then ((decimal c.args.k)) 20 172 (told_none _ _ 192 c.requires) (decimal_short _) c.put_decimal-number.ensures in told-then (ascii " ") 1 171 (told_number) (omega arith) c.put-answer.ensures in let refused : (describe (((c))).args.file.now (((c))).args.k ≡ Described.Refused c.in-Refused.refusal) = sym c.describe.ensures ∙ c.in-Refused.is in told-then (answer (((c)))) 161 10 (told_space) (answer_short (describe (((c))).args.file.now (((c))).args.k)) (rw (refused) c.put_refusal-told.ensures) in
     told-then (ascii "\n") 1 9 (told_refusal) (omega arith) c.put-in-Refused.ensures
 
 pub put-answer-requires : goal.put-answer-requires

@@ -16,25 +16,20 @@ text_1 s = refusal_text s.args.refusal
 abbrev text_2 : Start → List ℕ
 text_2 s = text_1 s ++ ascii "\n"
 
--- Where the function began, from behind the call that puts each piece.
-abbrev start_1 : After-put_refusal-told → After-put_refusal-told
-start_1 c = c
-
 abbrev start_2 : After-put → After-put
-start_2 c = (c)
+start_2 c = c
 
 -- Behind each call, the text so far is put, and so much room is left.
 abbrev Stands : Start → List ℕ → ℕ → List ℕ → ℕ → Type 0
 Stands s = Told s.args.run.now 0
 
-told_1 : (c : After-put_refusal-told) → Stands (start_1 c) (text_1 (start_1 c)) 1 c.put_refusal-told.new.run c.put_refusal-told.result
+told_1 : (c : After-put_refusal-told) → (Told c.args.run.now 0) ((refusal_text c.args.refusal)) 1 c.put_refusal-told.new.run c.put_refusal-told.result
 told_1 c =
-    let s = start_1 c in
-    told-then (refusal_text s.args.refusal) 52 1 (told_none _ _ 53 s.pre) (refusal_short s.args.refusal) c.put_refusal-told.ensures
+    told-then (refusal_text c.args.refusal) 52 1 (told_none _ _ 53 c.requires) (refusal_short c.args.refusal) c.put_refusal-told.ensures
 
 told_2 : (c : After-put) → Stands (start_2 c) (text_2 (start_2 c)) 0 c.put.new.run c.put.result
 told_2 c =
-    let told_1 : (Stands ((c)) (text_1 ((c))) 1 c.put_refusal-told.new.run c.put_refusal-told.result) = let s = (c) in told-then (refusal_text s.args.refusal) 52 1 (told_none _ _ 53 s.pre) (refusal_short s.args.refusal) c.put_refusal-told.ensures in
+    let told_1 : ((Told c.args.run.now 0) ((refusal_text c.args.refusal)) 1 c.put_refusal-told.new.run c.put_refusal-told.result) = told-then (refusal_text c.args.refusal) 52 1 (told_none _ _ 53 c.requires) (refusal_short c.args.refusal) c.put_refusal-told.ensures in
     told-then (ascii "\n") 1 0 (told_1) (omega arith) c.put.ensures
 
 pub put-requires : goal.put-requires

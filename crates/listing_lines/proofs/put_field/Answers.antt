@@ -43,85 +43,80 @@ text_8 s = text_7 s ++ ascii " "
 abbrev text_9 : Start → List ℕ
 text_9 s = text_8 s ++ decimal s.args.description.representation.n
 
--- Where the function began, from behind the call that puts each piece.
-abbrev start_1 : After-put_subject-subject → After-put_subject-subject
-start_1 c = c
-
 abbrev start_2 : After-put-surface → After-put-surface
-start_2 c = (c)
+start_2 c = c
 
 abbrev start_3 : After-put_decimal-kind → After-put_decimal-kind
-start_3 c = ((c))
+start_3 c = (c)
 
 abbrev start_4 : After-put-size → After-put-size
-start_4 c = (((c)))
+start_4 c = ((c))
 
 abbrev start_5 : After-put_size-frame → After-put_size-frame
-start_5 c = ((((c))))
+start_5 c = (((c)))
 
 abbrev start_6 : After-put-time → After-put-time
-start_6 c = (((((c)))))
+start_6 c = ((((c))))
 
 abbrev start_7 : After-put-moment → After-put-moment
-start_7 c = ((((((c))))))
+start_7 c = (((((c)))))
 
 abbrev start_8 : After-put-count → After-put-count
-start_8 c = (((((((c)))))))
+start_8 c = ((((((c))))))
 
 abbrev start_9 : After-put_decimal → After-put_decimal
-start_9 c = ((((((((c))))))))
+start_9 c = (((((((c)))))))
 
 -- Behind each call, the text so far is put, and so much room is left.
 abbrev Stands : Start → List ℕ → ℕ → List ℕ → ℕ → Type 0
 Stands s = Told s.args.run.now s.args.at
 
-told_1 : (c : After-put_subject-subject) → Stands (start_1 c) (text_1 (start_1 c)) 99 c.put_subject-subject.new.run c.put_subject-subject.result
+told_1 : (c : After-put_subject-subject) → (Told c.args.run.now c.args.at) ((subject_text c.args.description.discipline c.args.description.definition)) 99 c.put_subject-subject.new.run c.put_subject-subject.result
 told_1 c =
-    let s = start_1 c in
-    told-then (subject_text s.args.description.discipline s.args.description.definition) 62 99 (told_none _ _ 161 s.pre) (subject_short s.args.description.discipline s.args.description.definition) c.put_subject-subject.ensures
+    told-then (subject_text c.args.description.discipline c.args.description.definition) 62 99 (told_none _ _ 161 c.requires) (subject_short c.args.description.discipline c.args.description.definition) c.put_subject-subject.ensures
 
 told_2 : (c : After-put-surface) → Stands (start_2 c) (text_2 (start_2 c)) 98 c.put-surface.new.run c.put-surface.result
 told_2 c =
-    let told_1 : (Stands ((c)) (text_1 ((c))) 99 c.put_subject-subject.new.run c.put_subject-subject.result) = let s = (c) in told-then (subject_text s.args.description.discipline s.args.description.definition) 62 99 (told_none _ _ 161 s.pre) (subject_short s.args.description.discipline s.args.description.definition) c.put_subject-subject.ensures in
+    let told_1 : ((Told c.args.run.now c.args.at) ((subject_text c.args.description.discipline c.args.description.definition)) 99 c.put_subject-subject.new.run c.put_subject-subject.result) = told-then (subject_text c.args.description.discipline c.args.description.definition) 62 99 (told_none _ _ 161 c.requires) (subject_short c.args.description.discipline c.args.description.definition) c.put_subject-subject.ensures in
     told-then (ascii " ") 1 98 (told_1) (omega arith) c.put-surface.ensures
 
 told_3 : (c : After-put_decimal-kind) → Stands (start_3 c) (text_3 (start_3 c)) 78 c.put_decimal-kind.new.run c.put_decimal-kind.result
 told_3 c =
-    let told_2 : (Stands (((c))) (text_2 (((c)))) 98 c.put-surface.new.run c.put-surface.result) = let told_1 : (Stands ((c)) (text_1 ((c))) 99 c.put_subject-subject.new.run c.put_subject-subject.result) = let s = (c) in told-then (subject_text s.args.description.discipline s.args.description.definition) 62 99 (told_none _ _ 161 s.pre) (subject_short s.args.description.discipline s.args.description.definition) c.put_subject-subject.ensures in told-then (ascii " ") 1 98 (told_1) (omega arith) c.put-surface.ensures in
+    let told_2 : (Stands ((c)) (text_2 ((c))) 98 c.put-surface.new.run c.put-surface.result) = let told_1 : ((Told c.args.run.now c.args.at) ((subject_text c.args.description.discipline c.args.description.definition)) 99 c.put_subject-subject.new.run c.put_subject-subject.result) = told-then (subject_text c.args.description.discipline c.args.description.definition) 62 99 (told_none _ _ 161 c.requires) (subject_short c.args.description.discipline c.args.description.definition) c.put_subject-subject.ensures in told-then (ascii " ") 1 98 (told_1) (omega arith) c.put-surface.ensures in
     let s = start_3 c in
     told-then (decimal s.args.description.definition.surface) 20 78 (told_2) (decimal_short _) c.put_decimal-kind.ensures
 
 told_4 : (c : After-put-size) → Stands (start_4 c) (text_4 (start_4 c)) 77 c.put-size.new.run c.put-size.result
 told_4 c =
-    let told_3 : (Stands ((((c)))) (text_3 ((((c))))) 78 c.put_decimal-kind.new.run c.put_decimal-kind.result) = let told_2 : (Stands (((c))) (text_2 (((c)))) 98 c.put-surface.new.run c.put-surface.result) = let told_1 : (Stands ((c)) (text_1 ((c))) 99 c.put_subject-subject.new.run c.put_subject-subject.result) = let s = (c) in told-then (subject_text s.args.description.discipline s.args.description.definition) 62 99 (told_none _ _ 161 s.pre) (subject_short s.args.description.discipline s.args.description.definition) c.put_subject-subject.ensures in told-then (ascii " ") 1 98 (told_1) (omega arith) c.put-surface.ensures in let s = (((c))) in told-then (decimal s.args.description.definition.surface) 20 78 (told_2) (decimal_short _) c.put_decimal-kind.ensures in
+    let told_3 : (Stands (((c))) (text_3 (((c)))) 78 c.put_decimal-kind.new.run c.put_decimal-kind.result) = let told_2 : (Stands ((c)) (text_2 ((c))) 98 c.put-surface.new.run c.put-surface.result) = let told_1 : ((Told c.args.run.now c.args.at) ((subject_text c.args.description.discipline c.args.description.definition)) 99 c.put_subject-subject.new.run c.put_subject-subject.result) = told-then (subject_text c.args.description.discipline c.args.description.definition) 62 99 (told_none _ _ 161 c.requires) (subject_short c.args.description.discipline c.args.description.definition) c.put_subject-subject.ensures in told-then (ascii " ") 1 98 (told_1) (omega arith) c.put-surface.ensures in let s = ((c)) in told-then (decimal s.args.description.definition.surface) 20 78 (told_2) (decimal_short _) c.put_decimal-kind.ensures in
     told-then (ascii " ") 1 77 (told_3) (omega arith) c.put-size.ensures
 
 told_5 : (c : After-put_size-frame) → Stands (start_5 c) (text_5 (start_5 c)) 36 c.put_size-frame.new.run c.put_size-frame.result
 told_5 c =
-    let told_4 : (Stands (((((c))))) (text_4 (((((c)))))) 77 c.put-size.new.run c.put-size.result) = let told_3 : (Stands ((((c)))) (text_3 ((((c))))) 78 c.put_decimal-kind.new.run c.put_decimal-kind.result) = let told_2 : (Stands (((c))) (text_2 (((c)))) 98 c.put-surface.new.run c.put-surface.result) = let told_1 : (Stands ((c)) (text_1 ((c))) 99 c.put_subject-subject.new.run c.put_subject-subject.result) = let s = (c) in told-then (subject_text s.args.description.discipline s.args.description.definition) 62 99 (told_none _ _ 161 s.pre) (subject_short s.args.description.discipline s.args.description.definition) c.put_subject-subject.ensures in told-then (ascii " ") 1 98 (told_1) (omega arith) c.put-surface.ensures in let s = (((c))) in told-then (decimal s.args.description.definition.surface) 20 78 (told_2) (decimal_short _) c.put_decimal-kind.ensures in told-then (ascii " ") 1 77 (told_3) (omega arith) c.put-size.ensures in
+    let told_4 : (Stands ((((c)))) (text_4 ((((c))))) 77 c.put-size.new.run c.put-size.result) = let told_3 : (Stands (((c))) (text_3 (((c)))) 78 c.put_decimal-kind.new.run c.put_decimal-kind.result) = let told_2 : (Stands ((c)) (text_2 ((c))) 98 c.put-surface.new.run c.put-surface.result) = let told_1 : ((Told c.args.run.now c.args.at) ((subject_text c.args.description.discipline c.args.description.definition)) 99 c.put_subject-subject.new.run c.put_subject-subject.result) = told-then (subject_text c.args.description.discipline c.args.description.definition) 62 99 (told_none _ _ 161 c.requires) (subject_short c.args.description.discipline c.args.description.definition) c.put_subject-subject.ensures in told-then (ascii " ") 1 98 (told_1) (omega arith) c.put-surface.ensures in let s = ((c)) in told-then (decimal s.args.description.definition.surface) 20 78 (told_2) (decimal_short _) c.put_decimal-kind.ensures in told-then (ascii " ") 1 77 (told_3) (omega arith) c.put-size.ensures in
     let s = start_5 c in
     told-then (size_text (frame_of s.args.description.grid)) 41 36 (told_4) (size_short (frame_of s.args.description.grid)) (rw c.frame_of.ensures at c.put_size-frame.ensures)
 
 told_6 : (c : After-put-time) → Stands (start_6 c) (text_6 (start_6 c)) 35 c.put-time.new.run c.put-time.result
 told_6 c =
-    let told_5 : (Stands ((((((c)))))) (text_5 ((((((c))))))) 36 c.put_size-frame.new.run c.put_size-frame.result) = let told_4 : (Stands (((((c))))) (text_4 (((((c)))))) 77 c.put-size.new.run c.put-size.result) = let told_3 : (Stands ((((c)))) (text_3 ((((c))))) 78 c.put_decimal-kind.new.run c.put_decimal-kind.result) = let told_2 : (Stands (((c))) (text_2 (((c)))) 98 c.put-surface.new.run c.put-surface.result) = let told_1 : (Stands ((c)) (text_1 ((c))) 99 c.put_subject-subject.new.run c.put_subject-subject.result) = let s = (c) in told-then (subject_text s.args.description.discipline s.args.description.definition) 62 99 (told_none _ _ 161 s.pre) (subject_short s.args.description.discipline s.args.description.definition) c.put_subject-subject.ensures in told-then (ascii " ") 1 98 (told_1) (omega arith) c.put-surface.ensures in let s = (((c))) in told-then (decimal s.args.description.definition.surface) 20 78 (told_2) (decimal_short _) c.put_decimal-kind.ensures in told-then (ascii " ") 1 77 (told_3) (omega arith) c.put-size.ensures in let s = (((((c))))) in told-then (size_text (frame_of s.args.description.grid)) 41 36 (told_4) (size_short (frame_of s.args.description.grid)) (rw c.frame_of.ensures at c.put_size-frame.ensures) in
+    let told_5 : (Stands (((((c))))) (text_5 (((((c)))))) 36 c.put_size-frame.new.run c.put_size-frame.result) = let told_4 : (Stands ((((c)))) (text_4 ((((c))))) 77 c.put-size.new.run c.put-size.result) = let told_3 : (Stands (((c))) (text_3 (((c)))) 78 c.put_decimal-kind.new.run c.put_decimal-kind.result) = let told_2 : (Stands ((c)) (text_2 ((c))) 98 c.put-surface.new.run c.put-surface.result) = let told_1 : ((Told c.args.run.now c.args.at) ((subject_text c.args.description.discipline c.args.description.definition)) 99 c.put_subject-subject.new.run c.put_subject-subject.result) = told-then (subject_text c.args.description.discipline c.args.description.definition) 62 99 (told_none _ _ 161 c.requires) (subject_short c.args.description.discipline c.args.description.definition) c.put_subject-subject.ensures in told-then (ascii " ") 1 98 (told_1) (omega arith) c.put-surface.ensures in let s = ((c)) in told-then (decimal s.args.description.definition.surface) 20 78 (told_2) (decimal_short _) c.put_decimal-kind.ensures in told-then (ascii " ") 1 77 (told_3) (omega arith) c.put-size.ensures in let s = ((((c)))) in told-then (size_text (frame_of s.args.description.grid)) 41 36 (told_4) (size_short (frame_of s.args.description.grid)) (rw c.frame_of.ensures at c.put_size-frame.ensures) in
     told-then (ascii " ") 1 35 (told_5) (omega arith) c.put-time.ensures
 
 told_7 : (c : After-put-moment) → Stands (start_7 c) (text_7 (start_7 c)) 21 c.put-moment.new.run c.put-moment.result
 told_7 c =
-    let told_6 : (Stands (((((((c))))))) (text_6 (((((((c)))))))) 35 c.put-time.new.run c.put-time.result) = let told_5 : (Stands ((((((c)))))) (text_5 ((((((c))))))) 36 c.put_size-frame.new.run c.put_size-frame.result) = let told_4 : (Stands (((((c))))) (text_4 (((((c)))))) 77 c.put-size.new.run c.put-size.result) = let told_3 : (Stands ((((c)))) (text_3 ((((c))))) 78 c.put_decimal-kind.new.run c.put_decimal-kind.result) = let told_2 : (Stands (((c))) (text_2 (((c)))) 98 c.put-surface.new.run c.put-surface.result) = let told_1 : (Stands ((c)) (text_1 ((c))) 99 c.put_subject-subject.new.run c.put_subject-subject.result) = let s = (c) in told-then (subject_text s.args.description.discipline s.args.description.definition) 62 99 (told_none _ _ 161 s.pre) (subject_short s.args.description.discipline s.args.description.definition) c.put_subject-subject.ensures in told-then (ascii " ") 1 98 (told_1) (omega arith) c.put-surface.ensures in let s = (((c))) in told-then (decimal s.args.description.definition.surface) 20 78 (told_2) (decimal_short _) c.put_decimal-kind.ensures in told-then (ascii " ") 1 77 (told_3) (omega arith) c.put-size.ensures in let s = (((((c))))) in told-then (size_text (frame_of s.args.description.grid)) 41 36 (told_4) (size_short (frame_of s.args.description.grid)) (rw c.frame_of.ensures at c.put_size-frame.ensures) in told-then (ascii " ") 1 35 (told_5) (omega arith) c.put-time.ensures in
+    let told_6 : (Stands ((((((c)))))) (text_6 ((((((c))))))) 35 c.put-time.new.run c.put-time.result) = let told_5 : (Stands (((((c))))) (text_5 (((((c)))))) 36 c.put_size-frame.new.run c.put_size-frame.result) = let told_4 : (Stands ((((c)))) (text_4 ((((c))))) 77 c.put-size.new.run c.put-size.result) = let told_3 : (Stands (((c))) (text_3 (((c)))) 78 c.put_decimal-kind.new.run c.put_decimal-kind.result) = let told_2 : (Stands ((c)) (text_2 ((c))) 98 c.put-surface.new.run c.put-surface.result) = let told_1 : ((Told c.args.run.now c.args.at) ((subject_text c.args.description.discipline c.args.description.definition)) 99 c.put_subject-subject.new.run c.put_subject-subject.result) = told-then (subject_text c.args.description.discipline c.args.description.definition) 62 99 (told_none _ _ 161 c.requires) (subject_short c.args.description.discipline c.args.description.definition) c.put_subject-subject.ensures in told-then (ascii " ") 1 98 (told_1) (omega arith) c.put-surface.ensures in let s = ((c)) in told-then (decimal s.args.description.definition.surface) 20 78 (told_2) (decimal_short _) c.put_decimal-kind.ensures in told-then (ascii " ") 1 77 (told_3) (omega arith) c.put-size.ensures in let s = ((((c)))) in told-then (size_text (frame_of s.args.description.grid)) 41 36 (told_4) (size_short (frame_of s.args.description.grid)) (rw c.frame_of.ensures at c.put_size-frame.ensures) in told-then (ascii " ") 1 35 (told_5) (omega arith) c.put-time.ensures in
     let s = start_7 c in
     let shown = c.digits-digits.ensures ∙ ap digits_of c.listed_time.ensures in
     told-then (digits_of (listed_time s.args.description.definition)) 14 21 (told_6) (omega arith) (rw shown at c.put-moment.ensures)
 
 told_8 : (c : After-put-count) → Stands (start_8 c) (text_8 (start_8 c)) 20 c.put-count.new.run c.put-count.result
 told_8 c =
-    let told_7 : (Stands ((((((((c)))))))) (text_7 ((((((((c))))))))) 21 c.put-moment.new.run c.put-moment.result) = let told_6 : (Stands (((((((c))))))) (text_6 (((((((c)))))))) 35 c.put-time.new.run c.put-time.result) = let told_5 : (Stands ((((((c)))))) (text_5 ((((((c))))))) 36 c.put_size-frame.new.run c.put_size-frame.result) = let told_4 : (Stands (((((c))))) (text_4 (((((c)))))) 77 c.put-size.new.run c.put-size.result) = let told_3 : (Stands ((((c)))) (text_3 ((((c))))) 78 c.put_decimal-kind.new.run c.put_decimal-kind.result) = let told_2 : (Stands (((c))) (text_2 (((c)))) 98 c.put-surface.new.run c.put-surface.result) = let told_1 : (Stands ((c)) (text_1 ((c))) 99 c.put_subject-subject.new.run c.put_subject-subject.result) = let s = (c) in told-then (subject_text s.args.description.discipline s.args.description.definition) 62 99 (told_none _ _ 161 s.pre) (subject_short s.args.description.discipline s.args.description.definition) c.put_subject-subject.ensures in told-then (ascii " ") 1 98 (told_1) (omega arith) c.put-surface.ensures in let s = (((c))) in told-then (decimal s.args.description.definition.surface) 20 78 (told_2) (decimal_short _) c.put_decimal-kind.ensures in told-then (ascii " ") 1 77 (told_3) (omega arith) c.put-size.ensures in let s = (((((c))))) in told-then (size_text (frame_of s.args.description.grid)) 41 36 (told_4) (size_short (frame_of s.args.description.grid)) (rw c.frame_of.ensures at c.put_size-frame.ensures) in told-then (ascii " ") 1 35 (told_5) (omega arith) c.put-time.ensures in let s = (((((((c))))))) in let shown = c.digits-digits.ensures ∙ ap digits_of c.listed_time.ensures in told-then (digits_of (listed_time s.args.description.definition)) 14 21 (told_6) (omega arith) (rw shown at c.put-moment.ensures) in
+    let told_7 : (Stands (((((((c))))))) (text_7 (((((((c)))))))) 21 c.put-moment.new.run c.put-moment.result) = let told_6 : (Stands ((((((c)))))) (text_6 ((((((c))))))) 35 c.put-time.new.run c.put-time.result) = let told_5 : (Stands (((((c))))) (text_5 (((((c)))))) 36 c.put_size-frame.new.run c.put_size-frame.result) = let told_4 : (Stands ((((c)))) (text_4 ((((c))))) 77 c.put-size.new.run c.put-size.result) = let told_3 : (Stands (((c))) (text_3 (((c)))) 78 c.put_decimal-kind.new.run c.put_decimal-kind.result) = let told_2 : (Stands ((c)) (text_2 ((c))) 98 c.put-surface.new.run c.put-surface.result) = let told_1 : ((Told c.args.run.now c.args.at) ((subject_text c.args.description.discipline c.args.description.definition)) 99 c.put_subject-subject.new.run c.put_subject-subject.result) = told-then (subject_text c.args.description.discipline c.args.description.definition) 62 99 (told_none _ _ 161 c.requires) (subject_short c.args.description.discipline c.args.description.definition) c.put_subject-subject.ensures in told-then (ascii " ") 1 98 (told_1) (omega arith) c.put-surface.ensures in let s = ((c)) in told-then (decimal s.args.description.definition.surface) 20 78 (told_2) (decimal_short _) c.put_decimal-kind.ensures in told-then (ascii " ") 1 77 (told_3) (omega arith) c.put-size.ensures in let s = ((((c)))) in told-then (size_text (frame_of s.args.description.grid)) 41 36 (told_4) (size_short (frame_of s.args.description.grid)) (rw c.frame_of.ensures at c.put_size-frame.ensures) in told-then (ascii " ") 1 35 (told_5) (omega arith) c.put-time.ensures in let s = ((((((c)))))) in let shown = c.digits-digits.ensures ∙ ap digits_of c.listed_time.ensures in told-then (digits_of (listed_time s.args.description.definition)) 14 21 (told_6) (omega arith) (rw shown at c.put-moment.ensures) in
     told-then (ascii " ") 1 20 (told_7) (omega arith) c.put-count.ensures
 
 told_9 : (c : After-put_decimal) → Stands (start_9 c) (text_9 (start_9 c)) 0 c.put_decimal.new.run c.put_decimal.result
 told_9 c =
-    let told_8 : (Stands (((((((((c))))))))) (text_8 (((((((((c)))))))))) 20 c.put-count.new.run c.put-count.result) = let told_7 : (Stands ((((((((c)))))))) (text_7 ((((((((c))))))))) 21 c.put-moment.new.run c.put-moment.result) = let told_6 : (Stands (((((((c))))))) (text_6 (((((((c)))))))) 35 c.put-time.new.run c.put-time.result) = let told_5 : (Stands ((((((c)))))) (text_5 ((((((c))))))) 36 c.put_size-frame.new.run c.put_size-frame.result) = let told_4 : (Stands (((((c))))) (text_4 (((((c)))))) 77 c.put-size.new.run c.put-size.result) = let told_3 : (Stands ((((c)))) (text_3 ((((c))))) 78 c.put_decimal-kind.new.run c.put_decimal-kind.result) = let told_2 : (Stands (((c))) (text_2 (((c)))) 98 c.put-surface.new.run c.put-surface.result) = let told_1 : (Stands ((c)) (text_1 ((c))) 99 c.put_subject-subject.new.run c.put_subject-subject.result) = let s = (c) in told-then (subject_text s.args.description.discipline s.args.description.definition) 62 99 (told_none _ _ 161 s.pre) (subject_short s.args.description.discipline s.args.description.definition) c.put_subject-subject.ensures in told-then (ascii " ") 1 98 (told_1) (omega arith) c.put-surface.ensures in let s = (((c))) in told-then (decimal s.args.description.definition.surface) 20 78 (told_2) (decimal_short _) c.put_decimal-kind.ensures in told-then (ascii " ") 1 77 (told_3) (omega arith) c.put-size.ensures in let s = (((((c))))) in told-then (size_text (frame_of s.args.description.grid)) 41 36 (told_4) (size_short (frame_of s.args.description.grid)) (rw c.frame_of.ensures at c.put_size-frame.ensures) in told-then (ascii " ") 1 35 (told_5) (omega arith) c.put-time.ensures in let s = (((((((c))))))) in let shown = c.digits-digits.ensures ∙ ap digits_of c.listed_time.ensures in told-then (digits_of (listed_time s.args.description.definition)) 14 21 (told_6) (omega arith) (rw shown at c.put-moment.ensures) in told-then (ascii " ") 1 20 (told_7) (omega arith) c.put-count.ensures in
+    let told_8 : (Stands ((((((((c)))))))) (text_8 ((((((((c))))))))) 20 c.put-count.new.run c.put-count.result) = let told_7 : (Stands (((((((c))))))) (text_7 (((((((c)))))))) 21 c.put-moment.new.run c.put-moment.result) = let told_6 : (Stands ((((((c)))))) (text_6 ((((((c))))))) 35 c.put-time.new.run c.put-time.result) = let told_5 : (Stands (((((c))))) (text_5 (((((c)))))) 36 c.put_size-frame.new.run c.put_size-frame.result) = let told_4 : (Stands ((((c)))) (text_4 ((((c))))) 77 c.put-size.new.run c.put-size.result) = let told_3 : (Stands (((c))) (text_3 (((c)))) 78 c.put_decimal-kind.new.run c.put_decimal-kind.result) = let told_2 : (Stands ((c)) (text_2 ((c))) 98 c.put-surface.new.run c.put-surface.result) = let told_1 : ((Told c.args.run.now c.args.at) ((subject_text c.args.description.discipline c.args.description.definition)) 99 c.put_subject-subject.new.run c.put_subject-subject.result) = told-then (subject_text c.args.description.discipline c.args.description.definition) 62 99 (told_none _ _ 161 c.requires) (subject_short c.args.description.discipline c.args.description.definition) c.put_subject-subject.ensures in told-then (ascii " ") 1 98 (told_1) (omega arith) c.put-surface.ensures in let s = ((c)) in told-then (decimal s.args.description.definition.surface) 20 78 (told_2) (decimal_short _) c.put_decimal-kind.ensures in told-then (ascii " ") 1 77 (told_3) (omega arith) c.put-size.ensures in let s = ((((c)))) in told-then (size_text (frame_of s.args.description.grid)) 41 36 (told_4) (size_short (frame_of s.args.description.grid)) (rw c.frame_of.ensures at c.put_size-frame.ensures) in told-then (ascii " ") 1 35 (told_5) (omega arith) c.put-time.ensures in let s = ((((((c)))))) in let shown = c.digits-digits.ensures ∙ ap digits_of c.listed_time.ensures in told-then (digits_of (listed_time s.args.description.definition)) 14 21 (told_6) (omega arith) (rw shown at c.put-moment.ensures) in told-then (ascii " ") 1 20 (told_7) (omega arith) c.put-count.ensures in
     let s = start_9 c in
     told-then (decimal s.args.description.representation.n) 20 0 (told_8) (decimal_short _) c.put_decimal.ensures
 

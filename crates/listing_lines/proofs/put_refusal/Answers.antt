@@ -22,40 +22,36 @@ text_3 s = text_2 s ++ ascii " at "
 abbrev text_4 : Start → List ℕ
 text_4 s = text_3 s ++ decimal s.args.refusal.place.0
 
--- Where the function began, from behind the call that puts each piece.
-abbrev start_1 : After-put-number → After-put-number
-start_1 c = c
-
 abbrev start_2 : After-put_decimal-word → After-put_decimal-word
-start_2 c = (c)
+start_2 c = c
 
 abbrev start_3 : After-put-place → After-put-place
-start_3 c = ((c))
+start_3 c = (c)
 
 abbrev start_4 : After-put_decimal → After-put_decimal
-start_4 c = (((c)))
+start_4 c = ((c))
 
 -- Behind each call, the text so far is put, and so much room is left.
 abbrev Stands : Start → List ℕ → ℕ → List ℕ → ℕ → Type 0
 Stands s = Told s.args.run.now s.args.at
 
-told_1 : (c : After-put-number) → Stands (start_1 c) (text_1 (start_1 c)) 44 c.put-number.new.run c.put-number.result
-told_1 c = told-then (ascii "refused ") 8 44 (told_none _ _ 52 (start_1 c).requires) (omega arith) c.put-number.ensures
+told_1 : (c : After-put-number) → (Told c.args.run.now c.args.at) ((ascii "refused ")) 44 c.put-number.new.run c.put-number.result
+told_1 c = told-then (ascii "refused ") 8 44 (told_none _ _ 52 c.requires) (omega arith) c.put-number.ensures
 
 told_2 : (c : After-put_decimal-word) → Stands (start_2 c) (text_2 (start_2 c)) 24 c.put_decimal-word.new.run c.put_decimal-word.result
 told_2 c =
-    let told_1 : (Stands ((c)) (text_1 ((c))) 44 c.put-number.new.run c.put-number.result) = told-then (ascii "refused ") 8 44 (told_none _ _ 52 ((c)).requires) (omega arith) c.put-number.ensures in
+    let told_1 : ((Told c.args.run.now c.args.at) ((ascii "refused ")) 44 c.put-number.new.run c.put-number.result) = told-then (ascii "refused ") 8 44 (told_none _ _ 52 c.requires) (omega arith) c.put-number.ensures in
     let s = start_2 c in
     told-then (decimal (number_of s.args.refusal.why)) 20 24 (told_1) (decimal_short _) (rw c.number_of.ensures at c.put_decimal-word.ensures)
 
 told_3 : (c : After-put-place) → Stands (start_3 c) (text_3 (start_3 c)) 20 c.put-place.new.run c.put-place.result
 told_3 c =
-    let told_2 : (Stands (((c))) (text_2 (((c)))) 24 c.put_decimal-word.new.run c.put_decimal-word.result) = let told_1 : (Stands ((c)) (text_1 ((c))) 44 c.put-number.new.run c.put-number.result) = told-then (ascii "refused ") 8 44 (told_none _ _ 52 ((c)).requires) (omega arith) c.put-number.ensures in let s = ((c)) in told-then (decimal (number_of s.args.refusal.why)) 20 24 (told_1) (decimal_short _) (rw c.number_of.ensures at c.put_decimal-word.ensures) in
+    let told_2 : (Stands ((c)) (text_2 ((c))) 24 c.put_decimal-word.new.run c.put_decimal-word.result) = let told_1 : ((Told c.args.run.now c.args.at) ((ascii "refused ")) 44 c.put-number.new.run c.put-number.result) = told-then (ascii "refused ") 8 44 (told_none _ _ 52 c.requires) (omega arith) c.put-number.ensures in let s = (c) in told-then (decimal (number_of s.args.refusal.why)) 20 24 (told_1) (decimal_short _) (rw c.number_of.ensures at c.put_decimal-word.ensures) in
     told-then (ascii " at ") 4 20 (told_2) (omega arith) c.put-place.ensures
 
 told_4 : (c : After-put_decimal) → Stands (start_4 c) (text_4 (start_4 c)) 0 c.put_decimal.new.run c.put_decimal.result
 told_4 c =
-    let told_3 : (Stands ((((c)))) (text_3 ((((c))))) 20 c.put-place.new.run c.put-place.result) = let told_2 : (Stands (((c))) (text_2 (((c)))) 24 c.put_decimal-word.new.run c.put_decimal-word.result) = let told_1 : (Stands ((c)) (text_1 ((c))) 44 c.put-number.new.run c.put-number.result) = told-then (ascii "refused ") 8 44 (told_none _ _ 52 ((c)).requires) (omega arith) c.put-number.ensures in let s = ((c)) in told-then (decimal (number_of s.args.refusal.why)) 20 24 (told_1) (decimal_short _) (rw c.number_of.ensures at c.put_decimal-word.ensures) in told-then (ascii " at ") 4 20 (told_2) (omega arith) c.put-place.ensures in
+    let told_3 : (Stands (((c))) (text_3 (((c)))) 20 c.put-place.new.run c.put-place.result) = let told_2 : (Stands ((c)) (text_2 ((c))) 24 c.put_decimal-word.new.run c.put_decimal-word.result) = let told_1 : ((Told c.args.run.now c.args.at) ((ascii "refused ")) 44 c.put-number.new.run c.put-number.result) = told-then (ascii "refused ") 8 44 (told_none _ _ 52 c.requires) (omega arith) c.put-number.ensures in let s = (c) in told-then (decimal (number_of s.args.refusal.why)) 20 24 (told_1) (decimal_short _) (rw c.number_of.ensures at c.put_decimal-word.ensures) in told-then (ascii " at ") 4 20 (told_2) (omega arith) c.put-place.ensures in
     let s = start_4 c in
     told-then (decimal s.args.refusal.place.0) 20 0 (told_3) (decimal_short _) c.put_decimal.ensures
 

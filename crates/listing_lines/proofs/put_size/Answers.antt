@@ -18,33 +18,28 @@ text_2 s = text_1 s ++ ascii "x"
 abbrev text_3 : Start → List ℕ
 text_3 s = text_2 s ++ decimal s.args.frame.nj
 
--- Where the function began, from behind the call that puts each piece.
-abbrev start_1 : After-put_decimal-columns → After-put_decimal-columns
-start_1 c = c
-
 abbrev start_2 : After-put-rows → After-put-rows
-start_2 c = (c)
+start_2 c = c
 
 abbrev start_3 : After-put_decimal → After-put_decimal
-start_3 c = ((c))
+start_3 c = (c)
 
 -- Behind each call, the text so far is put, and so much room is left.
 abbrev Stands : Start → List ℕ → ℕ → List ℕ → ℕ → Type 0
 Stands s = Told s.args.run.now s.args.at
 
-told_1 : (c : After-put_decimal-columns) → Stands (start_1 c) (text_1 (start_1 c)) 21 c.put_decimal-columns.new.run c.put_decimal-columns.result
+told_1 : (c : After-put_decimal-columns) → (Told c.args.run.now c.args.at) ((decimal c.args.frame.ni)) 21 c.put_decimal-columns.new.run c.put_decimal-columns.result
 told_1 c =
-    let s = start_1 c in
-    told-then (decimal s.args.frame.ni) 20 21 (told_none _ _ 41 s.pre) (decimal_short _) c.put_decimal-columns.ensures
+    told-then (decimal c.args.frame.ni) 20 21 (told_none _ _ 41 c.requires) (decimal_short _) c.put_decimal-columns.ensures
 
 told_2 : (c : After-put-rows) → Stands (start_2 c) (text_2 (start_2 c)) 20 c.put-rows.new.run c.put-rows.result
 told_2 c =
-    let told_1 : (Stands ((c)) (text_1 ((c))) 21 c.put_decimal-columns.new.run c.put_decimal-columns.result) = let s = (c) in told-then (decimal s.args.frame.ni) 20 21 (told_none _ _ 41 s.pre) (decimal_short _) c.put_decimal-columns.ensures in
+    let told_1 : ((Told c.args.run.now c.args.at) ((decimal c.args.frame.ni)) 21 c.put_decimal-columns.new.run c.put_decimal-columns.result) = told-then (decimal c.args.frame.ni) 20 21 (told_none _ _ 41 c.requires) (decimal_short _) c.put_decimal-columns.ensures in
     told-then (ascii "x") 1 20 (told_1) (omega arith) c.put-rows.ensures
 
 told_3 : (c : After-put_decimal) → Stands (start_3 c) (text_3 (start_3 c)) 0 c.put_decimal.new.run c.put_decimal.result
 told_3 c =
-    let told_2 : (Stands (((c))) (text_2 (((c)))) 20 c.put-rows.new.run c.put-rows.result) = let told_1 : (Stands ((c)) (text_1 ((c))) 21 c.put_decimal-columns.new.run c.put_decimal-columns.result) = let s = (c) in told-then (decimal s.args.frame.ni) 20 21 (told_none _ _ 41 s.pre) (decimal_short _) c.put_decimal-columns.ensures in told-then (ascii "x") 1 20 (told_1) (omega arith) c.put-rows.ensures in
+    let told_2 : (Stands ((c)) (text_2 ((c))) 20 c.put-rows.new.run c.put-rows.result) = let told_1 : ((Told c.args.run.now c.args.at) ((decimal c.args.frame.ni)) 21 c.put_decimal-columns.new.run c.put_decimal-columns.result) = told-then (decimal c.args.frame.ni) 20 21 (told_none _ _ 41 c.requires) (decimal_short _) c.put_decimal-columns.ensures in told-then (ascii "x") 1 20 (told_1) (omega arith) c.put-rows.ensures in
     let s = start_3 c in
     told-then (decimal s.args.frame.nj) 20 0 (told_2) (decimal_short _) c.put_decimal.ensures
 

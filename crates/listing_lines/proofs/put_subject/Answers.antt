@@ -25,50 +25,45 @@ text_4 s = text_3 s ++ ascii "/"
 abbrev text_5 : Start → List ℕ
 text_5 s = text_4 s ++ decimal s.args.definition.parameter
 
--- Where the function began, from behind the call that puts each piece.
-abbrev start_1 : After-put_decimal-first → After-put_decimal-first
-start_1 c = c
-
 abbrev start_2 : After-put-category → After-put-category
-start_2 c = (c)
+start_2 c = c
 
 abbrev start_3 : After-put_decimal-second → After-put_decimal-second
-start_3 c = ((c))
+start_3 c = (c)
 
 abbrev start_4 : After-put-parameter → After-put-parameter
-start_4 c = (((c)))
+start_4 c = ((c))
 
 abbrev start_5 : After-put_decimal → After-put_decimal
-start_5 c = ((((c))))
+start_5 c = (((c)))
 
 -- Behind each call, the text so far is put, and so much room is left.
 abbrev Stands : Start → List ℕ → ℕ → List ℕ → ℕ → Type 0
 Stands s = Told s.args.run.now s.args.at
 
-told_1 : (c : After-put_decimal-first) → Stands (start_1 c) (text_1 (start_1 c)) 42 c.put_decimal-first.new.run c.put_decimal-first.result
+told_1 : (c : After-put_decimal-first) → (Told c.args.run.now c.args.at) ((decimal c.args.discipline)) 42 c.put_decimal-first.new.run c.put_decimal-first.result
 told_1 c =
-    let s = start_1 c in
-    told-then (decimal s.args.discipline) 20 42 (told_none _ _ 62 s.pre) (decimal_short _) c.put_decimal-first.ensures
+    told-then (decimal c.args.discipline) 20 42 (told_none _ _ 62 c.requires) (decimal_short _) c.put_decimal-first.ensures
 
 told_2 : (c : After-put-category) → Stands (start_2 c) (text_2 (start_2 c)) 41 c.put-category.new.run c.put-category.result
 told_2 c =
-    let told_1 : (Stands ((c)) (text_1 ((c))) 42 c.put_decimal-first.new.run c.put_decimal-first.result) = let s = (c) in told-then (decimal s.args.discipline) 20 42 (told_none _ _ 62 s.pre) (decimal_short _) c.put_decimal-first.ensures in
+    let told_1 : ((Told c.args.run.now c.args.at) ((decimal c.args.discipline)) 42 c.put_decimal-first.new.run c.put_decimal-first.result) = told-then (decimal c.args.discipline) 20 42 (told_none _ _ 62 c.requires) (decimal_short _) c.put_decimal-first.ensures in
     told-then (ascii "/") 1 41 (told_1) (omega arith) c.put-category.ensures
 
 told_3 : (c : After-put_decimal-second) → Stands (start_3 c) (text_3 (start_3 c)) 21 c.put_decimal-second.new.run c.put_decimal-second.result
 told_3 c =
-    let told_2 : (Stands (((c))) (text_2 (((c)))) 41 c.put-category.new.run c.put-category.result) = let told_1 : (Stands ((c)) (text_1 ((c))) 42 c.put_decimal-first.new.run c.put_decimal-first.result) = let s = (c) in told-then (decimal s.args.discipline) 20 42 (told_none _ _ 62 s.pre) (decimal_short _) c.put_decimal-first.ensures in told-then (ascii "/") 1 41 (told_1) (omega arith) c.put-category.ensures in
+    let told_2 : (Stands ((c)) (text_2 ((c))) 41 c.put-category.new.run c.put-category.result) = let told_1 : ((Told c.args.run.now c.args.at) ((decimal c.args.discipline)) 42 c.put_decimal-first.new.run c.put_decimal-first.result) = told-then (decimal c.args.discipline) 20 42 (told_none _ _ 62 c.requires) (decimal_short _) c.put_decimal-first.ensures in told-then (ascii "/") 1 41 (told_1) (omega arith) c.put-category.ensures in
     let s = start_3 c in
     told-then (decimal s.args.definition.category) 20 21 (told_2) (decimal_short _) c.put_decimal-second.ensures
 
 told_4 : (c : After-put-parameter) → Stands (start_4 c) (text_4 (start_4 c)) 20 c.put-parameter.new.run c.put-parameter.result
 told_4 c =
-    let told_3 : (Stands ((((c)))) (text_3 ((((c))))) 21 c.put_decimal-second.new.run c.put_decimal-second.result) = let told_2 : (Stands (((c))) (text_2 (((c)))) 41 c.put-category.new.run c.put-category.result) = let told_1 : (Stands ((c)) (text_1 ((c))) 42 c.put_decimal-first.new.run c.put_decimal-first.result) = let s = (c) in told-then (decimal s.args.discipline) 20 42 (told_none _ _ 62 s.pre) (decimal_short _) c.put_decimal-first.ensures in told-then (ascii "/") 1 41 (told_1) (omega arith) c.put-category.ensures in let s = (((c))) in told-then (decimal s.args.definition.category) 20 21 (told_2) (decimal_short _) c.put_decimal-second.ensures in
+    let told_3 : (Stands (((c))) (text_3 (((c)))) 21 c.put_decimal-second.new.run c.put_decimal-second.result) = let told_2 : (Stands ((c)) (text_2 ((c))) 41 c.put-category.new.run c.put-category.result) = let told_1 : ((Told c.args.run.now c.args.at) ((decimal c.args.discipline)) 42 c.put_decimal-first.new.run c.put_decimal-first.result) = told-then (decimal c.args.discipline) 20 42 (told_none _ _ 62 c.requires) (decimal_short _) c.put_decimal-first.ensures in told-then (ascii "/") 1 41 (told_1) (omega arith) c.put-category.ensures in let s = ((c)) in told-then (decimal s.args.definition.category) 20 21 (told_2) (decimal_short _) c.put_decimal-second.ensures in
     told-then (ascii "/") 1 20 (told_3) (omega arith) c.put-parameter.ensures
 
 told_5 : (c : After-put_decimal) → Stands (start_5 c) (text_5 (start_5 c)) 0 c.put_decimal.new.run c.put_decimal.result
 told_5 c =
-    let told_4 : (Stands (((((c))))) (text_4 (((((c)))))) 20 c.put-parameter.new.run c.put-parameter.result) = let told_3 : (Stands ((((c)))) (text_3 ((((c))))) 21 c.put_decimal-second.new.run c.put_decimal-second.result) = let told_2 : (Stands (((c))) (text_2 (((c)))) 41 c.put-category.new.run c.put-category.result) = let told_1 : (Stands ((c)) (text_1 ((c))) 42 c.put_decimal-first.new.run c.put_decimal-first.result) = let s = (c) in told-then (decimal s.args.discipline) 20 42 (told_none _ _ 62 s.pre) (decimal_short _) c.put_decimal-first.ensures in told-then (ascii "/") 1 41 (told_1) (omega arith) c.put-category.ensures in let s = (((c))) in told-then (decimal s.args.definition.category) 20 21 (told_2) (decimal_short _) c.put_decimal-second.ensures in told-then (ascii "/") 1 20 (told_3) (omega arith) c.put-parameter.ensures in
+    let told_4 : (Stands ((((c)))) (text_4 ((((c))))) 20 c.put-parameter.new.run c.put-parameter.result) = let told_3 : (Stands (((c))) (text_3 (((c)))) 21 c.put_decimal-second.new.run c.put_decimal-second.result) = let told_2 : (Stands ((c)) (text_2 ((c))) 41 c.put-category.new.run c.put-category.result) = let told_1 : ((Told c.args.run.now c.args.at) ((decimal c.args.discipline)) 42 c.put_decimal-first.new.run c.put_decimal-first.result) = told-then (decimal c.args.discipline) 20 42 (told_none _ _ 62 c.requires) (decimal_short _) c.put_decimal-first.ensures in told-then (ascii "/") 1 41 (told_1) (omega arith) c.put-category.ensures in let s = ((c)) in told-then (decimal s.args.definition.category) 20 21 (told_2) (decimal_short _) c.put_decimal-second.ensures in told-then (ascii "/") 1 20 (told_3) (omega arith) c.put-parameter.ensures in
     let s = start_5 c in
     told-then (decimal s.args.definition.parameter) 20 0 (told_4) (decimal_short _) c.put_decimal.ensures
 

@@ -10,10 +10,6 @@ use Rattle.question_decode.proofs.Laws.{bitmap, bitmap_lies, packed_marked, fiel
 use Rattle.question_decode.proofs.fill.Goals.{After-bitmap_in_force-bitmap}
 use Rattle.question_decode.proofs.fill.Goals as goal
 
--- The function's entry, from behind the bitmap.
-abbrev Begun : After-bitmap_in_force-bitmap → After-bitmap_in_force-bitmap
-Begun c = c
-
 pub packing_of-packing-requires : goal.packing_of-packing-requires
 packing_of-packing-requires c = scaled c.args.file.now c.args.description c.requires.decodable.0
 
@@ -27,53 +23,46 @@ pub bitmap_in_force-bitmap-requires : goal.bitmap_in_force-bitmap-requires
 bitmap_in_force-bitmap-requires c = rw c.points_of.ensures (bitmap_lies c.args.file.now c.args.description c.requires.decodable.0)
 
 -- The bitmap that is handed on, and the room that it and both runs are.
-marks : (c : After-bitmap_in_force-bitmap) → let s = Begun c in c.bitmap_in_force-bitmap.result.now ≡ bitmap s.args.file.now s.args.description s.pre.0.0
+marks : (c : After-bitmap_in_force-bitmap) → c.bitmap_in_force-bitmap.result.now ≡ bitmap c.args.file.now c.args.description c.requires.decodable.0
 marks c = rw c.points_of.ensures at c.bitmap_in_force-bitmap.ensures
 
-room : (c : After-bitmap_in_force-bitmap) → let s = Begun c in Room (bitmap s.args.file.now s.args.description s.pre.0.0) s.args.values.now s.args.presence.now
+room : (c : After-bitmap_in_force-bitmap) → Room (bitmap c.args.file.now c.args.description c.requires.decodable.0) c.args.values.now c.args.presence.now
 room c =
-    let s = Begun c in
-    let file = s.args.file.now in
-    let d = s.args.description in
-    let known = s.pre.0.0 in (
-      omega (arith, s.pre.1),
-      omega (arith, s.pre.1, few_points file d known),
-      λ some. omega (arith, s.pre.1, field_covers file d.presence (points_of d.grid) (bitmap_lies file d known) some),
+    let file = c.args.file.now in
+    let d = c.args.description in
+    let known = c.requires.decodable.0 in (
+      omega (arith, c.requires.stretch),
+      omega (arith, c.requires.stretch, few_points file d known),
+      λ some. omega (arith, c.requires.stretch, field_covers file d.presence (points_of d.grid) (bitmap_lies file d known) some),
     )
 
 -- As many points are present as there are integers.
 ranks : (c : After-bitmap_in_force-bitmap) →
-    let s = Begun c in
-    s.args.description.representation.n ≡ (marks_in (bitmap s.args.file.now s.args.description s.pre.0.0)).rank (length s.args.values.now)
+    c.args.description.representation.n ≡ (marks_in (bitmap c.args.file.now c.args.description c.requires.decodable.0)).rank (length c.args.values.now)
 ranks c =
-    let s = Begun c in
-    packed_marked s.args.file.now s.args.description s.pre.0.0 ∙ ap (marks_in (bitmap s.args.file.now s.args.description s.pre.0.0)).rank (sym s.pre.1.0)
+    packed_marked c.args.file.now c.args.description c.requires.decodable.0 ∙ ap (marks_in (bitmap c.args.file.now c.args.description c.requires.decodable.0)).rank (sym c.requires.stretch.0)
 
 pub fill-requires : goal.fill-requires
 fill-requires c =
-    let s = Begun (goal.at.fill-requires c).After-bitmap_in_force-bitmap in
-    rw (marks (goal.at.fill-requires c).After-bitmap_in_force-bitmap) (room (goal.at.fill-requires c).After-bitmap_in_force-bitmap, bits_fit s.args.file.now s.args.description s.pre.0.0, ranks (goal.at.fill-requires c).After-bitmap_in_force-bitmap)
+    rw (marks (goal.at.fill-requires c).After-bitmap_in_force-bitmap) (room (goal.at.fill-requires c).After-bitmap_in_force-bitmap, bits_fit c.args.file.now c.args.description c.requires.decodable.0, ranks (goal.at.fill-requires c).After-bitmap_in_force-bitmap)
 
 pub fill-requires-in-Complex : goal.fill-requires-in-Complex
 fill-requires-in-Complex c =
-    let s = Begun (goal.at.fill-requires-in-Complex c).After-bitmap_in_force-bitmap in
-    let file = s.args.file.now in
-    let d = s.args.description in
-    let known = s.pre.0.0 in
+    let file = c.args.file.now in
+    let d = c.args.description in
+    let known = c.requires.decodable.0 in
     let e = c.in-Complex.is in
     rw (c.octets_in-section.ensures, marks (goal.at.fill-requires-in-Complex c).After-bitmap_in_force-bitmap)
-    (groups_sound file d known e, (groups_decodable file d known e ∙ s.pre.0.1, (room (goal.at.fill-requires-in-Complex c).After-bitmap_in_force-bitmap, groups_values file d known e ∙ ranks (goal.at.fill-requires-in-Complex c).After-bitmap_in_force-bitmap)))
+    (groups_sound file d known e, (groups_decodable file d known e ∙ c.requires.decodable.1, (room (goal.at.fill-requires-in-Complex c).After-bitmap_in_force-bitmap, groups_values file d known e ∙ ranks (goal.at.fill-requires-in-Complex c).After-bitmap_in_force-bitmap)))
 
 pub returns-in-Simple : goal.returns-in-Simple
 returns-in-Simple c =
-    let s = Begun (goal.at.returns-in-Simple c).After-bitmap_in_force-bitmap in
-    field_rows s.args.file.now s.args.description s.pre.0.0 (runs s.args.values.now s.args.presence.now)
-    (simple_size s.args.file.now s.args.description s.pre.0.0 c.in-Simple.is) s.pre.1.0
+    field_rows c.args.file.now c.args.description c.requires.decodable.0 (runs c.args.values.now c.args.presence.now)
+    (simple_size c.args.file.now c.args.description c.requires.decodable.0 c.in-Simple.is) c.requires.stretch.0
     (rw (c.octets_in-section.ensures, c.packing_of-packing.ensures, marks (goal.at.returns-in-Simple c).After-bitmap_in_force-bitmap) at c.fill.ensures)
 
 pub returns-in-Complex : goal.returns-in-Complex
 returns-in-Complex c =
-    let s = Begun (goal.at.returns-in-Complex c).After-bitmap_in_force-bitmap in
-    field_rows s.args.file.now s.args.description s.pre.0.0 (runs s.args.values.now s.args.presence.now)
-    (groups_size s.args.file.now s.args.description s.pre.0.0 c.in-Complex.is) s.pre.1.0
+    field_rows c.args.file.now c.args.description c.requires.decodable.0 (runs c.args.values.now c.args.presence.now)
+    (groups_size c.args.file.now c.args.description c.requires.decodable.0 c.in-Complex.is) c.requires.stretch.0
     (rw (c.octets_in-section.ensures, c.packing_of-packing.ensures, marks (goal.at.returns-in-Complex c).After-bitmap_in_force-bitmap) at c.fill-in-Complex.ensures)

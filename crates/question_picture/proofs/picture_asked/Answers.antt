@@ -16,10 +16,6 @@ use Rattle.question_picture.proofs.Laws.{short_sizes, header_short, asked_crampe
 use Rattle.question_picture.proofs.picture_asked.Goals.{After-points_of, After-put_header-first, Else-run-end}
 use Rattle.question_picture.proofs.picture_asked.Goals as goal
 
--- The function's entry, from behind the point count.
-abbrev Begun : After-points_of → After-points_of
-Begun c = c
-
 pub header_length-requires : goal.header_length-requires
 header_length-requires c = rw c.frame_of-frame.ensures (short_sizes c.args.file.now c.args.description c.requires)
 
@@ -28,45 +24,43 @@ points_of-requires c = few_points c.args.file.now c.args.description c.requires
 
 -- How long the lines are, which is at most 49 octets, and how many points there are.
 places : (c : After-points_of) →
-    let d = (Begun c).args.description in
+    let d = c.args.description in
     (c.header_length.result ≡ length (header (frame_of d.grid))) × (c.header_length.result ≤ 49) × (c.points_of.result ≡ points_of d.grid) × (points_of d.grid ≤ 16777216)
 places c =
-    let s = Begun c in
-    let d = s.args.description in
+    let d = c.args.description in
     let long = rw c.frame_of-frame.ensures at c.header_length.ensures in
-    (long, omega (arith, long, header_short (frame_of d.grid)), c.points_of.ensures, few_points s.args.file.now d s.pre)
+    (long, omega (arith, long, header_short (frame_of d.grid)), c.points_of.ensures, few_points c.args.file.now d c.requires)
 
 pub overflow_add-end : goal.overflow_add-end
 overflow_add-end c = omega (arith, places (goal.at.overflow_add-end c).After-points_of)
 
 pub returns-then-run-end : goal.returns-then-run-end
 returns-then-run-end c =
-    let a = (Begun (goal.at.returns-then-run-end c).After-points_of).args in
+    let a = c.args in
     let drawn = asked_cramped a.file.now (length a.run.now) a.description (omega (arith, places (goal.at.returns-then-run-end c).After-points_of, c.if-run-end.true)) in
     record { value = c.refused.ensures ∙ ap pictured_by drawn; run_after = ap (run_after a.run.now) drawn }
 
 -- Where the run is not too short, the picture fits.
-fits : (c : Else-run-end) → let a = ((c)).args in picture_length (frame_of a.description.grid) ≤ length a.run.now
+fits : (c : Else-run-end) → let a = c.args in picture_length (frame_of a.description.grid) ≤ length a.run.now
 fits c =
-    let places : (let d = ((c)).args.description in (c.header_length.result ≡ length (header (frame_of d.grid))) × (c.header_length.result ≤ 49) × (c.points_of.result ≡ points_of d.grid) × (points_of d.grid ≤ 16777216)) = let s = (c) in let d = s.args.description in let long = rw c.frame_of-frame.ensures at c.header_length.ensures in (long, omega (arith, long, header_short (frame_of d.grid)), c.points_of.ensures, few_points s.args.file.now d s.pre) in
+    let places : (let d = c.args.description in (c.header_length.result ≡ length (header (frame_of d.grid))) × (c.header_length.result ≤ 49) × (c.points_of.result ≡ points_of d.grid) × (points_of d.grid ≤ 16777216)) = let d = c.args.description in let long = rw c.frame_of-frame.ensures at c.header_length.ensures in (long, omega (arith, long, header_short (frame_of d.grid)), c.points_of.ensures, few_points c.args.file.now d c.requires) in
     omega (arith, places, c.if-run-end.false)
 
 pub returns-in_default : goal.returns-in_default
 returns-in_default c =
-    let a = (Begun (goal.at.returns-in_default c).After-points_of).args in
+    let a = c.args in
     let outside = none_largest a.file.now (length a.run.now) a.description (sym c.in_default.is ∙ c.largest_of.ensures) in
     let drawn = asked_outside a.file.now (length a.run.now) a.description (fits (goal.at.returns-in_default c).Else-run-end) outside in
     record { value = c.refused-in_default.ensures ∙ ap pictured_by drawn; run_after = ap (run_after a.run.now) drawn }
 
 pub put_header-first-requires : goal.put_header-first-requires
 put_header-first-requires c =
-    let s = Begun (goal.at.put_header-first-requires c).After-points_of in
-    let sizes = short_sizes s.args.file.now s.args.description s.pre in
+    let sizes = short_sizes c.args.file.now c.args.description c.requires in
     rw c.frame_of-frame.ensures (sizes.0, sizes.1, omega (arith, fits (goal.at.put_header-first-requires c).Else-run-end))
 
 -- The lines end where the greys begin, in a run that is as long as it was.
 lines_put : (c : After-put_header-first) →
-    let a = ((c)).args in
+    let a = c.args in
     Puts a.run.now 0 (header (frame_of a.description.grid)) c.put_header-first.new.run c.put_header-first.result
     × (c.put_header-first.result ≡ length (header (frame_of a.description.grid)))
     × (length c.put_header-first.new.run ≡ length a.run.now)
@@ -84,12 +78,11 @@ slice_bounds-paint-end c =
 
 pub paint-requires : goal.paint-requires
 paint-requires c =
-    let s = Begun (goal.at.paint-requires c).After-points_of in
     let first = c.put_header-first.result in
     let end = c.header_length.result + c.points_of.result in
     let inside : end ≤ length c.put_header-first.new.run = omega (arith, (lines_put (goal.at.paint-requires c).After-put_header-first).2, c.if-run-end.false) in
-    let many : end - first ≡ points_of s.args.description.grid = omega (arith, (lines_put (goal.at.paint-requires c).After-put_header-first).1, places (goal.at.paint-requires c).After-points_of) in
-    (s.pre, sym c.largest_of.ensures ∙ c.in-Is.is, mid_len first end c.put_header-first.new.run inside ∙ many)
+    let many : end - first ≡ points_of c.args.description.grid = omega (arith, (lines_put (goal.at.paint-requires c).After-put_header-first).1, places (goal.at.paint-requires c).After-points_of) in
+    (c.requires, sym c.largest_of.ensures ∙ c.in-Is.is, mid_len first end c.put_header-first.new.run inside ∙ many)
 
 pub overflow_cast-result : goal.overflow_cast-result
 overflow_cast-result c = omega (arith, places (goal.at.overflow_cast-result c).After-points_of)
@@ -99,7 +92,7 @@ shape_of-run c = c.run-2-1.given.1 ∙ (lines_put (goal.at.shape_of-run c).After
 
 pub returns : goal.returns
 returns c =
-    let a = (Begun (goal.at.returns c).After-points_of).args in
+    let a = c.args in
     let d = a.description in
     let lines = header (frame_of d.grid) in
     let greys = greys_of (present_of a.file.now d) (point_integer a.file.now d) (points_of d.grid) in
@@ -107,5 +100,5 @@ returns c =
     let end = c.header_length.result + c.points_of.result in
     let size : length greys ≡ points_of d.grid = row_length _ (points_of d.grid) in
     let painted = part_laid first end c.put_header-first.new.run _ greys c.paint.ensures (omega (arith, size, (lines_put (goal.at.returns c).After-put_header-first).1, places (goal.at.returns c).After-points_of)) in
-    let told = largest_told a.file.now d (Begun (goal.at.returns c).After-points_of).requires (sym c.largest_of.ensures ∙ c.in-Is.is) in
+    let told = largest_told a.file.now d c.requires (sym c.largest_of.ensures ∙ c.in-Is.is) in
     let drawn = asked_drawn a.file.now (length a.run.now) d (fits (goal.at.returns c).Else-run-end) told.0 in record { value = ap Pictured.Octets (omega (arith, places (goal.at.returns c).After-points_of)) ∙ ap pictured_by drawn; run_after = laid_drawn a.run.now lines greys (omega (arith, size, fits (goal.at.returns c).Else-run-end)) (lines_put (goal.at.returns c).After-put_header-first).0 painted ∙ ap (run_after a.run.now) drawn }

@@ -13,20 +13,16 @@ use Rattle.values_complex.proofs.Bounds.{packed_low, starts_bounded}
 use Rattle.values_complex.proofs.Joined.{two_fit}
 use Rattle.values_complex.proofs.Passed.{passed_none, next_kept, passed_more, all_written, next_room}
 use Rattle.values_complex.proofs.Turns.{kept_limits}
-use Rattle.values_complex.proofs.fill.Goals.{After-first_bit-bit, At-loop-i}
+use Rattle.values_complex.proofs.fill.Goals.{At-loop-i}
 use Rattle.values_complex.proofs.fill.Goals as goal
-
--- The function's entry, from the loop.
-abbrev Entry : After-first_bit-bit → After-first_bit-bit
-Entry c = c
 
 -- The runs are as long as those that were lent, in the loop and in what it keeps.
 lengths : (c : At-loop-i) →
-    let n = length ((c)).args.values.now in
+    let n = length c.args.values.now in
     (length c.loop-i.values ≡ n) × (length c.loop-i.presence ≡ n) × (length c.loop-i.invariant.0.doubles ≡ n) × (length c.loop-i.invariant.0.marks ≡ n)
 lengths c =
-    let bitmap = ((c)).args.bitmap.now in
-    omega (arith, past_lengths (marks_in bitmap) (ranked bitmap).more c.loop-i.invariant.4.written, ((c)).pre.1.1.0)
+    let bitmap = c.args.bitmap.now in
+    omega (arith, past_lengths (marks_in bitmap) (ranked bitmap).more c.loop-i.invariant.4.written, c.requires.room)
 
 pub write-point-requires : goal.write-point-requires
 write-point-requires c =
@@ -37,79 +33,73 @@ first_bit-bit-requires c = omega (arith, packed_low _ _ c.requires.sound, starts
 
 pub loop-i-init : goal.loop-i-init
 loop-i-init c =
-    let s = Entry (goal.at.loop-i-init c).After-first_bit-bit in
-    let section = s.args.section.now in
-    let bitmap = s.args.bitmap.now in
-    let d = s.args.groups.differencing in
-    let fit = two_fit section s.args.groups s.pre.0 s.pre.1.0 in
+    let section = c.args.section.now in
+    let bitmap = c.args.bitmap.now in
+    let d = c.args.groups.differencing in
+    let fit = two_fit section c.args.groups c.requires.sound c.requires.all_in_range in
     let first : d.first % 2147483648 ≡ d.first = omega (arith, fit.0) in
     let second : d.second % 2147483648 ≡ d.second = omega (arith, fit.1) in
     rw c.first_bit-bit.ensures (
-      runs s.args.values.now s.args.presence.now,
+      runs c.args.values.now c.args.presence.now,
       omega arith,
       omega arith,
       refl,
-      passed_none section s.args.groups s.pre.0 s.pre.1.0 (ranked bitmap) first second c.write-point.ensures,
+      passed_none section c.args.groups c.requires.sound c.requires.all_in_range (ranked bitmap) first second c.write-point.ensures,
     )
 
 pub group_at-met-requires : goal.group_at-met-requires
-group_at-met-requires c =
-    record { sound = ((Entry (goal.at.group_at-met-requires c).After-first_bit-bit).pre.0, c.loop-i-test.true); start_value = c.loop-i.invariant.4.starts }
+group_at-met-requires c = record { sound = (c.requires.sound, c.loop-i-test.true); start_value = c.loop-i.invariant.4.starts }
 
 pub slice_bounds-write_group-end : goal.slice_bounds-write_group-end
 slice_bounds-write_group-end c = sym c.loop-i.invariant.3
 
 pub write_group-reached-requires : goal.write_group-reached-requires
 write_group-reached-requires c =
-    let s = Entry (goal.at.write_group-reached-requires c).After-first_bit-bit in
-    let section = s.args.section.now in
-    let bitmap = s.args.bitmap.now in
-    let groups = s.args.groups in
+    let section = c.args.section.now in
+    let bitmap = c.args.bitmap.now in
+    let groups = c.args.groups in
     let here = c.loop-i-test.true in
     let passed = c.loop-i.invariant.4 in
     let long = lengths (goal.at.write_group-reached-requires c).At-loop-i in
-    let room = next_room section groups s.pre.0 s.pre.1.0 (ranked bitmap) passed here in
+    let room = next_room section groups c.requires.sound c.requires.all_in_range (ranked bitmap) passed here in
     rw c.group_at-met.ensures.0 (record {
-      limits = (kept_limits section groups _ passed.kept here s.pre.0, next_kept section groups s.pre.0 s.pre.1.0 (ranked bitmap) passed here);
+      limits = (kept_limits section groups _ passed.kept here c.requires.sound, next_kept section groups c.requires.sound c.requires.all_in_range (ranked bitmap) passed here);
       room = (
-        (omega (arith, long), omega (arith, long, s.pre.1.1.0.1), λ some. omega (arith, long, s.pre.1.1.0.2 some)),
-        (omega (arith, long, passed.written.within), omega (arith, room, s.pre.1.1.1, ap (marks_in bitmap).rank long.0)),
+        (omega (arith, long), omega (arith, long, c.requires.room.1), λ some. omega (arith, long, c.requires.room.2 some)),
+        (omega (arith, long, passed.written.within), omega (arith, room, c.requires.groups_value, ap (marks_in bitmap).rank long.0)),
       );
       block_len = c.loop-i.invariant.3;
     })
 
 pub loop-i-preserved : goal.loop-i-preserved
 loop-i-preserved c =
-    let s = Entry (goal.at.loop-i-preserved c).After-first_bit-bit in
     let group = c.group_at-met.ensures.0 in (
       c.loop-i.invariant.0,
       c.loop-i.invariant.1,
       c.loop-i.invariant.2,
       omega (arith, c.write_group-reached.auto, c.loop-i.invariant.3),
-      passed_more s.args.section.now s.args.groups s.pre.0 s.pre.1.0 (ranked s.args.bitmap.now) c.loop-i.invariant.4 c.loop-i-test.true
+      passed_more c.args.section.now c.args.groups c.requires.sound c.requires.all_in_range (ranked c.args.bitmap.now) c.loop-i.invariant.4 c.loop-i-test.true
           c.group_at-met.ensures.1 (rw group at c.write_group-reached.ensures.group_goes) (rw group at c.write_group-reached.ensures.group_written),
     )
 
 pub clear_missing-requires : goal.clear_missing-requires
 clear_missing-requires c =
-    let s = Entry (goal.at.clear_missing-requires c).After-first_bit-bit in
-    let long = lengths (goal.at.clear_missing-requires c).At-loop-i in record { room = (omega (arith, long), omega (arith, long, s.pre.1.1.0.1), λ some. omega (arith, long, s.pre.1.1.0.2 some)); point_in_bounds = omega (arith, long, c.loop-i.invariant.4.written.within) }
+    let long = lengths (goal.at.clear_missing-requires c).At-loop-i in record { room = (omega (arith, long), omega (arith, long, c.requires.room.1), λ some. omega (arith, long, c.requires.room.2 some)); point_in_bounds = omega (arith, long, c.loop-i.invariant.4.written.within) }
 
 pub shape_of-values : goal.shape_of-values
 shape_of-values c = omega (arith, c.clear_missing.auto, lengths (goal.at.shape_of-values c).At-loop-i)
 
 pub shape_of-presence : goal.shape_of-presence
 shape_of-presence c =
-    omega (arith, c.clear_missing.auto, lengths (goal.at.shape_of-presence c).At-loop-i, (Entry (goal.at.shape_of-presence c).After-first_bit-bit).pre.1.1.0)
+    omega (arith, c.clear_missing.auto, lengths (goal.at.shape_of-presence c).At-loop-i, c.requires.room)
 
 pub returns : goal.returns
 returns c =
-    let s = Entry (goal.at.returns c).After-first_bit-bit in
-    let bitmap = s.args.bitmap.now in
+    let bitmap = c.args.bitmap.now in
     let passed = c.loop-i.invariant.4 in
     let long = lengths (goal.at.returns c).At-loop-i in
-    let all = all_written s.args.section.now s.args.groups s.pre.0 s.pre.1.0 (ranked bitmap) passed c.loop-i-test.false in
-    let ranks = ap (marks_in bitmap).rank long.2 ∙ sym s.pre.1.1.1 ∙ sym all in
+    let all = all_written c.args.section.now c.args.groups c.requires.sound c.requires.all_in_range (ranked bitmap) passed c.loop-i-test.false in
+    let ranks = ap (marks_in bitmap).rank long.2 ∙ sym c.requires.groups_value ∙ sym all in
     rw long.2 at
-    (cleared_filled (marks_in bitmap) (ranked bitmap) s.args.packing (size_in s.args.section.now s.args.groups) passed.written c.clear_missing.ensures ranks
+    (cleared_filled (marks_in bitmap) (ranked bitmap) c.args.packing (size_in c.args.section.now c.args.groups) passed.written c.clear_missing.ensures ranks
     (long.3 ∙ sym long.2))

@@ -71,6 +71,6 @@ returns c =
     let length = c.length_of-length.ensures.0 in
     let reference = c.stored-reference.ensures.0 in
     let skip = c.skipped-skip.ensures in (
-      rw (skip, c.requires.start_value, width, length, reference, c.raised_by.ensures, c.before.Lowered-by.ensures),
+      rw (skip, c.requires.start_value, width, length, reference, c.raised_by.ensures, c.lowered_by.ensures),
       rw (c.requires.start_value, width, length) (sym (start_more a.section.now a.groups a.i)),
     )

@@ -32,7 +32,7 @@ worked_to-requires c =
 decided : (c : After-worked_to) →
     is_kept c.worked_to.result ≡ are_in_range (integer_in c.args.section.now c.args.groups) c.args.n
 decided c =
-    let two : (2 ≤ s.args.n) = omega (arith, c.requires.1, c.requires.0.two_values) in
+    let two : (2 ≤ c.args.n) = omega (arith, c.requires.1, c.requires.0.two_values) in
     let all : c.args.n - 2 + 2 ≡ c.args.n = omega (arith, two) in
     ap is_kept c.worked_to.ensures
     ∙ sym (range_worked c.args.section.now c.args.groups (c.args.n - 2))

@@ -12,10 +12,6 @@ use Rattle.values_complex.proofs.Turns.{kept_limits, cut, cut_limits, working_no
 use Rattle.values_complex.proofs.worked_to.Goals.{After-first_of-group, After-judge, In-loop-left}
 use Rattle.values_complex.proofs.worked_to.Goals as goal
 
--- The function's entry, from within a turn.
-abbrev Begun : In-loop-left → In-loop-left
-Begun c = c
-
 pub first_bit-bit-requires : goal.first_bit-bit-requires
 first_bit-bit-requires c = omega (arith, starts_bounded _ _ c.requires.sound.0)
 
@@ -24,55 +20,51 @@ loop-left-init c =
     working_none c.args.section.now c.args.groups c.args.wanted c.requires.first_bound.0 c.requires.first_bound.1 c.first_bit-bit.ensures
 
 -- Some integers are left, so there is a group.
-inside : (c : In-loop-left) → c.loop-left.i < (Begun c).args.groups.grouping.groups
+inside : (c : In-loop-left) → c.loop-left.i < c.args.groups.grouping.groups
 inside c =
-    let s = Begun c in
-    working_group s.args.section.now s.args.groups s.args.wanted c.loop-left.invariant c.loop-left-test.true s.pre.0.1
+    working_group c.args.section.now c.args.groups c.args.wanted c.loop-left.invariant c.loop-left-test.true c.requires.sound.1
 
 pub group_at-met-requires : goal.group_at-met-requires
 group_at-met-requires c =
-    record { sound = ((Begun (goal.at.group_at-met-requires c).In-loop-left).requires.0.0, inside (goal.at.group_at-met-requires c).In-loop-left); start_value = (c.loop-left.invariant.next c.loop-left-test.true).1 }
+    record { sound = (c.requires.sound.0, inside (goal.at.group_at-met-requires c).In-loop-left); start_value = (c.loop-left.invariant.next c.loop-left-test.true).1 }
 
 -- The group that is judged: the first numbers of group i.
 first : (c : After-first_of-group) →
     let l = c.loop-left in
-    let a = ((c)).args in
+    let a = c.args in
     c.first_of-group.result ≡ first_of (group_at a.section.now a.groups l.i) l.left
 first c = let l = c.loop-left in c.first_of-group.ensures ∙ ap (λ (g : Group). first_of g l.left) c.group_at-met.ensures.0
 
 pub judge-requires : goal.judge-requires
 judge-requires c =
     let l = c.loop-left in
-    let s = Begun (goal.at.judge-requires c).In-loop-left in
     rw (first (goal.at.judge-requires c).After-first_of-group)
-    (cut_limits (group_at s.args.section.now s.args.groups l.i) l.left (kept_limits s.args.section.now s.args.groups _ l.invariant.kept (inside (goal.at.judge-requires c).In-loop-left) s.pre.0.0))
+    (cut_limits (group_at c.args.section.now c.args.groups l.i) l.left (kept_limits c.args.section.now c.args.groups _ l.invariant.kept (inside (goal.at.judge-requires c).In-loop-left) c.requires.sound.0))
 
 -- What their judging answers.
 judged : (c : After-judge) →
     let l = c.loop-left in
-    let a = ((c)).args in
+    let a = c.args in
     let g = first_of (group_at a.section.now a.groups l.i) l.left in
     c.judge.result ≡ worked_by a.section.now g (Worked.Kept l.x l.before) g.count
 judged c =
-    let first : (let l = c.loop-left in let a = ((c)).args in c.first_of-group.result ≡ first_of (group_at a.section.now a.groups l.i) l.left) = let l = c.loop-left in c.first_of-group.ensures ∙ ap (λ (g : Group). first_of g l.left) c.group_at-met.ensures.0 in
+    let first : (let l = c.loop-left in let a = c.args in c.first_of-group.result ≡ first_of (group_at a.section.now a.groups l.i) l.left) = let l = c.loop-left in c.first_of-group.ensures ∙ ap (λ (g : Group). first_of g l.left) c.group_at-met.ensures.0 in
     rw (first) at c.judge.ensures
 
 pub returns-in_default : goal.returns-in_default
 returns-in_default c =
-    let s = Begun (goal.at.returns-in_default c).In-loop-left in
-    working_out s.args.section.now s.args.groups s.args.wanted c.loop-left.invariant c.loop-left-test.true (inside (goal.at.returns-in_default c).In-loop-left) (judged (goal.at.returns-in_default c).After-judge) c.in_default.is
+    working_out c.args.section.now c.args.groups c.args.wanted c.loop-left.invariant c.loop-left-test.true (inside (goal.at.returns-in_default c).In-loop-left) (judged (goal.at.returns-in_default c).After-judge) c.in_default.is
 
 pub overflow_add-i : goal.overflow_add-i
-overflow_add-i c =
-    omega (arith, inside (goal.at.overflow_add-i c).In-loop-left, (Begun (goal.at.overflow_add-i c).In-loop-left).requires.0.0.groups_fit)
+overflow_add-i c = omega (arith, inside (goal.at.overflow_add-i c).In-loop-left, c.requires.sound.0.groups_fit)
 
 -- No more integers are judged than are left.
-counted : (c : After-first_of-group) → c.first_of-group.result.count ≡ (first_of (group_at ((c)).args.section.now ((c)).args.groups c.loop-left.i) c.loop-left.left).count
+counted : (c : After-first_of-group) → c.first_of-group.result.count ≡ (first_of (group_at c.args.section.now c.args.groups c.loop-left.i) c.loop-left.left).count
 counted c = ap (λ (g : Group). g.count) (first c)
 
 pub overflow_sub-left : goal.overflow_sub-left
 overflow_sub-left c =
-    let a = (Begun (goal.at.overflow_sub-left c).In-loop-left).args in
+    let a = c.args in
     omega (arith, counted (goal.at.overflow_sub-left c).After-first_of-group, (cut (group_at a.section.now a.groups c.loop-left.i) c.loop-left.left).asked)
 
 pub loop-left-smaller : goal.loop-left-smaller
@@ -80,8 +72,7 @@ loop-left-smaller c = omega (arith, inside (goal.at.loop-left-smaller c).In-loop
 
 pub loop-left-preserved : goal.loop-left-preserved
 loop-left-preserved c =
-    let s = Begun (goal.at.loop-left-preserved c).In-loop-left in
-    let on = working_on s.args.section.now s.args.groups s.args.wanted c.loop-left.invariant c.loop-left-test.true (inside (goal.at.loop-left-preserved c).In-loop-left) (judged (goal.at.loop-left-preserved c).After-judge) c.in-Kept.is in
+    let on = working_on c.args.section.now c.args.groups c.args.wanted c.loop-left.invariant c.loop-left-test.true (inside (goal.at.loop-left-preserved c).In-loop-left) (judged (goal.at.loop-left-preserved c).After-judge) c.in-Kept.is in
     rw (counted (goal.at.loop-left-preserved c).After-first_of-group, c.group_at-met.ensures.1) on
 
 pub returns : goal.returns

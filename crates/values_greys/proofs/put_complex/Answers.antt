@@ -35,31 +35,24 @@ pub loop-i-init : goal.loop-i-init
 loop-i-init c =
     passed_none c.args.section.now c.args.groups c.args.scale c.requires.sound.0 c.requires.sound.1 _ c.first_bit-bit.ensures
 
--- The function's entry, from the loop.
-abbrev Entry : At-loop-i → At-loop-i
-Entry c = c
-
 -- The run with the first two greys is as long as the one that was lent: one octet for each value.
 long : (c : At-loop-i) →
-    let s = Entry c in
-    values_in s.args.section.now s.args.groups ≡ length (set (set s.args.greys.now 0 c.grey_of.result) 1 c.grey_of-2.result)
-long c = let s = Entry c in rw (length-set, length-set) (sym s.pre.0.2)
+    values_in c.args.section.now c.args.groups ≡ length (set (set c.args.greys.now 0 c.grey_of.result) 1 c.grey_of-2.result)
+long c = rw (length-set, length-set) (sym c.requires.sound.2)
 
 pub group_at-met-requires : goal.group_at-met-requires
-group_at-met-requires c =
-    record { sound = ((Entry (goal.at.group_at-met-requires c).At-loop-i).requires.0.0, c.loop-i-test.true); start_value = c.loop-i.invariant.starts }
+group_at-met-requires c = record { sound = (c.requires.sound.0, c.loop-i-test.true); start_value = c.loop-i.invariant.starts }
 
 -- The group's stretch lies in the run, which is not long.
 fits : (c : After-group-1) →
     let end = c.loop-i.done + c.group_at-met.result.group.count in
     (end ≤ length c.loop-i.greys) × (end ≤ 16777216)
 fits c =
-    let long : (let s = (c) in values_in s.args.section.now s.args.groups ≡ length (set (set s.args.greys.now 0 c.grey_of.result) 1 c.grey_of-2.result)) = let s = (c) in rw (length-set, length-set) (sym s.pre.0.2) in
-    let s = (c) in
-    let a = s.args in
-    let room = next_room a.section.now a.groups a.scale s.pre.0.0 s.pre.0.1 c.loop-i.invariant c.loop-i-test.true in
+    let long : (values_in c.args.section.now c.args.groups ≡ length (set (set c.args.greys.now 0 c.grey_of.result) 1 c.grey_of-2.result)) = rw (length-set, length-set) (sym c.requires.sound.2) in
+    let a = c.args in
+    let room = next_room a.section.now a.groups a.scale c.requires.sound.0 c.requires.sound.1 c.loop-i.invariant c.loop-i-test.true in
     rw c.group_at-met.ensures.0
-    (omega (arith, room, long, passed_length a.section.now a.groups a.scale c.loop-i.invariant, s.pre.0.0.few_values))
+    (omega (arith, room, long, passed_length a.section.now a.groups a.scale c.loop-i.invariant, c.requires.sound.0.few_values))
 
 pub overflow_add-end : goal.overflow_add-end
 overflow_add-end c = omega (arith, (fits (goal.at.overflow_add-end c).After-group-1).1)
@@ -69,38 +62,34 @@ slice_bounds-put_group-end c = (fits (goal.at.slice_bounds-put_group-end c).Afte
 
 pub put_group-latest-requires : goal.put_group-latest-requires
 put_group-latest-requires c =
-    let s = Entry (goal.at.put_group-latest-requires c).At-loop-i in
-    let a = s.args in
+    let a = c.args in
     let run = a.section.now in
     let p = c.loop-i.invariant in
     let here = c.loop-i-test.true in
     let group = c.group_at-met.ensures.0 in
     let end = c.loop-i.done + c.group_at-met.result.group.count in
-    let part = mid_len c.loop-i.done end c.loop-i.greys (fits (goal.at.put_group-latest-requires c).After-group-1).0 in record { limits = (rw group (kept_limits run a.groups _ p.kept here s.pre.0.0), omega (arith, part), omega (arith, part, (fits (goal.at.put_group-latest-requires c).After-group-1).1)); group_kept = rw group (next_kept run a.groups a.scale s.pre.0.0 s.pre.0.1 p here); scaled_to = (s.pre.1.0, rw group (next_below run a.groups a.scale s.pre.0.0 s.pre.0.1 p here s.pre.1.1)) }
+    let part = mid_len c.loop-i.done end c.loop-i.greys (fits (goal.at.put_group-latest-requires c).After-group-1).0 in record { limits = (rw group (kept_limits run a.groups _ p.kept here c.requires.sound.0), omega (arith, part), omega (arith, part, (fits (goal.at.put_group-latest-requires c).After-group-1).1)); group_kept = rw group (next_kept run a.groups a.scale c.requires.sound.0 c.requires.sound.1 p here); scaled_to = (c.requires.scaled_to.0, rw group (next_below run a.groups a.scale c.requires.sound.0 c.requires.sound.1 p here c.requires.scaled_to.1)) }
 
 pub loop-i-preserved : goal.loop-i-preserved
 loop-i-preserved c =
-    let s = Entry (goal.at.loop-i-preserved c).At-loop-i in
-    let a = s.args in
+    let a = c.args in
     let group = c.group_at-met.ensures.0 in
     rw group (
-    passed_more a.section.now a.groups a.scale s.pre.0.0 s.pre.0.1 c.loop-i.invariant c.loop-i-test.true (long (goal.at.loop-i-preserved c).At-loop-i) c.group_at-met.ensures.1
+    passed_more a.section.now a.groups a.scale c.requires.sound.0 c.requires.sound.1 c.loop-i.invariant c.loop-i-test.true (long (goal.at.loop-i-preserved c).At-loop-i) c.group_at-met.ensures.1
     (rw group at c.put_group-latest.ensures.group_goes) (rw group at c.put_group-latest.ensures.greys_after)
     )
 
 pub shape_of-greys : goal.shape_of-greys
 shape_of-greys c =
-    let s = Entry (goal.at.shape_of-greys c).At-loop-i in
-    passed_length s.args.section.now s.args.groups s.args.scale c.loop-i.invariant ∙ sym (long (goal.at.shape_of-greys c).At-loop-i) ∙ sym s.pre.0.2
+    passed_length c.args.section.now c.args.groups c.args.scale c.loop-i.invariant ∙ sym (long (goal.at.shape_of-greys c).At-loop-i) ∙ sym c.requires.sound.2
 
 pub returns : goal.returns
 returns c =
-    let s = Entry (goal.at.returns c).At-loop-i in
-    let a = s.args in
+    let a = c.args in
     let run = a.section.now in
     let n = length a.greys.now in
     let f : ℕ → ℕ = packed_grey a.scale (size_in run a.groups) in
-    let more : 2 ≤ n = omega (arith, s.pre.0.0.two_values, s.pre.0.2) in
+    let more : 2 ≤ n = omega (arith, c.requires.sound.0.two_values, c.requires.sound.2) in
     let two = two_greyed run a.groups a.scale a.greys.now c.grey_of.ensures c.grey_of-2.ensures in
-    let all = passed_all run a.groups a.scale s.pre.0.0 s.pre.0.1 c.loop-i.invariant c.loop-i-test.false ∙ sym s.pre.0.2 in
+    let all = passed_all run a.groups a.scale c.requires.sound.0 c.requires.sound.1 c.loop-i.invariant c.loop-i-test.false ∙ sym c.requires.sound.2 in
     filled_further f a.greys.now _ c.loop-i.greys more two (rw all at c.loop-i.invariant.greyed) ∙ filled_whole f n a.greys.now refl

@@ -7,12 +7,8 @@ use Rattle.values_complex.proofs.Bounds.{starts_bounded}
 use Rattle.values_complex.proofs.Joined.{first_out, second_out}
 use Rattle.values_largest.specs.Largest.{seen_by}
 use Rattle.values_largest.proofs.Passed.{gathered_none, gathered_limits, gathered_on, gathered_out, gathered_all}
-use Rattle.values_largest.proofs.of_complex.Goals.{After-group-1, After-in_group, In-loop-i}
+use Rattle.values_largest.proofs.of_complex.Goals.{After-group-1, After-in_group}
 use Rattle.values_largest.proofs.of_complex.Goals as goal
-
--- The function's entry, from within a turn.
-abbrev Begun : In-loop-i → In-loop-i
-Begun c = c
 
 pub returns-then-differencing-gt2147483647 : goal.returns-then-differencing-gt2147483647
 returns-then-differencing-gt2147483647 c =
@@ -31,45 +27,41 @@ loop-i-init c =
     gathered_none a.section.now a.groups c.if-differencing-gt2147483647.false c.if-differencing-gt2147483647-2.false c.first_bit-bit.ensures c.larger-largest.ensures
 
 pub group_at-met-requires : goal.group_at-met-requires
-group_at-met-requires c =
-    record { sound = ((Begun (goal.at.group_at-met-requires c).In-loop-i).requires, c.loop-i-test.true); start_value = c.loop-i.invariant.starts }
+group_at-met-requires c = record { sound = (c.requires, c.loop-i-test.true); start_value = c.loop-i.invariant.starts }
 
 -- The group that is looked at is group i.
 same : (c : After-group-1) →
-    c.group_at-met.result.group ≡ group_at ((c)).args.section.now ((c)).args.groups c.loop-i.i
+    c.group_at-met.result.group ≡ group_at c.args.section.now c.args.groups c.loop-i.i
 same c = c.group_at-met.ensures.0
 
 pub in_group-requires : goal.in_group-requires
 in_group-requires c =
     let l = c.loop-i in
-    let s = Begun (goal.at.in_group-requires c).In-loop-i in
-    rw (same (goal.at.in_group-requires c).After-group-1) (gathered_limits s.args.section.now s.args.groups s.pre l.invariant c.loop-i-test.true, l.invariant.fits)
+    rw (same (goal.at.in_group-requires c).After-group-1) (gathered_limits c.args.section.now c.args.groups c.requires l.invariant c.loop-i-test.true, l.invariant.fits)
 
 -- What its integers give.
 answered : (c : After-in_group) →
     let l = c.loop-i in
-    let a = ((c)).args in
+    let a = c.args in
     let g = group_at a.section.now a.groups l.i in
     c.in_group.result ≡ seen_by a.section.now g l.x l.before l.largest g.count
 answered c =
-    let same : (c.group_at-met.result.group ≡ group_at ((c)).args.section.now ((c)).args.groups c.loop-i.i) = c.group_at-met.ensures.0 in
+    let same : (c.group_at-met.result.group ≡ group_at c.args.section.now c.args.groups c.loop-i.i) = c.group_at-met.ensures.0 in
     rw (same) at c.in_group.ensures
 
 pub returns-in_default : goal.returns-in_default
 returns-in_default c =
-    let s = Begun (goal.at.returns-in_default c).In-loop-i in
-    gathered_out s.args.section.now s.args.groups s.pre c.loop-i.invariant c.loop-i-test.true (answered (goal.at.returns-in_default c).After-in_group) c.in_default.is
+    gathered_out c.args.section.now c.args.groups c.requires c.loop-i.invariant c.loop-i-test.true (answered (goal.at.returns-in_default c).After-in_group) c.in_default.is
 
 pub overflow_add-i : goal.overflow_add-i
-overflow_add-i c = omega (arith, c.loop-i-test.true, (Begun (goal.at.overflow_add-i c).In-loop-i).requires.groups_fit)
+overflow_add-i c = omega (arith, c.loop-i-test.true, c.requires.groups_fit)
 
 pub loop-i-smaller : goal.loop-i-smaller
 loop-i-smaller c = omega (arith, c.loop-i-test.true)
 
 pub loop-i-preserved : goal.loop-i-preserved
 loop-i-preserved c =
-    let s = Begun (goal.at.loop-i-preserved c).In-loop-i in
-    gathered_on s.args.section.now s.args.groups s.pre c.loop-i.invariant c.loop-i-test.true (answered (goal.at.loop-i-preserved c).After-in_group) c.in-Kept.is c.group_at-met.ensures.1
+    gathered_on c.args.section.now c.args.groups c.requires c.loop-i.invariant c.loop-i-test.true (answered (goal.at.loop-i-preserved c).After-in_group) c.in-Kept.is c.group_at-met.ensures.1
 
 pub overflow_cast-result : goal.overflow_cast-result
 overflow_cast-result c = omega (arith, c.loop-i.invariant.fits)
