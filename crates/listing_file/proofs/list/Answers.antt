@@ -36,7 +36,7 @@ told_count c =
     told-then (ascii " fields\n") 8 655332 (told_number) (omega arith) c.put-first.ensures
 
 pub returns-then-input-gt65536 : goal.returns-then-input-gt65536
-returns-then-input-gt65536 c = rw (listing_too_long c.args.input.now (omega arith)) c.before.before.Put-refused.ensures
+returns-then-input-gt65536 c = rw (listing_too_long c.args.input.now (omega arith)) c.put_refused.ensures
 
 pub put-first-requires : goal.put-first-requires
 put-first-requires c = told_room 8 (omega arith) (told_number (goal.at.put-first-requires c).After-put_decimal-word)

@@ -18,7 +18,6 @@ returns-in-Simple c = sym (simple_decodable c.args.file.now c.args.description c
 
 pub returns-in-Complex : goal.returns-in-Complex
 returns-in-Complex c =
-    let plan = c.plan-1 in
     rw c.octets_in.ensures at c.is_in_range.ensures
-    ∙ ap (are_in_range (integer_in (run c.args.file.now c.args.description c.requires) plan.given.0.0)) (sym (groups_values c.args.file.now c.args.description c.requires plan.given.1))
-    ∙ groups_decodable c.args.file.now c.args.description c.requires plan.given.1
+    ∙ ap (are_in_range (integer_in (run c.args.file.now c.args.description c.requires) c.in-Complex.groups)) (sym (groups_values c.args.file.now c.args.description c.requires c.in-Complex.is))
+    ∙ groups_decodable c.args.file.now c.args.description c.requires c.in-Complex.is

@@ -30,4 +30,6 @@ refuses c =
     (ap answer_of outcome, (ap (values_after a.start a.values.now) outcome, ap (presence_after a.start a.presence.now) outcome))
 
 pub returns-in-Refused : goal.returns-in-Refused
-returns-in-Refused c = refuses (goal.at.returns-in-Refused c).In-Refused
+returns-in-Refused c =
+    let refused = refuses (goal.at.returns-in-Refused c).In-Refused in
+    record { value = refused.0; values_after = refused.1.0; presence_after = refused.1.1 }

@@ -53,16 +53,23 @@ fill-requires-in-Complex c =
     let known = c.requires.decodable.0 in
     let e = c.in-Complex.is in
     rw (c.octets_in-section.ensures, marks (goal.at.fill-requires-in-Complex c).After-bitmap_in_force-bitmap)
-    (groups_sound file d known e, (groups_decodable file d known e ∙ c.requires.decodable.1, (room (goal.at.fill-requires-in-Complex c).After-bitmap_in_force-bitmap, groups_values file d known e ∙ ranks (goal.at.fill-requires-in-Complex c).After-bitmap_in_force-bitmap)))
+    (record {
+      sound = groups_sound file d known e;
+      all_in_range = groups_decodable file d known e ∙ c.requires.decodable.1;
+      room = room (goal.at.fill-requires-in-Complex c).After-bitmap_in_force-bitmap;
+      groups_value = groups_values file d known e ∙ ranks (goal.at.fill-requires-in-Complex c).After-bitmap_in_force-bitmap;
+    })
 
 pub returns-in-Simple : goal.returns-in-Simple
 returns-in-Simple c =
-    field_rows c.args.file.now c.args.description c.requires.decodable.0 (runs c.args.values.now c.args.presence.now)
+    let rows = field_rows c.args.file.now c.args.description c.requires.decodable.0 (runs c.args.values.now c.args.presence.now)
     (simple_size c.args.file.now c.args.description c.requires.decodable.0 c.in-Simple.is) c.requires.stretch.0
-    (rw (c.octets_in-section.ensures, c.packing_of-packing.ensures, marks (goal.at.returns-in-Simple c).After-bitmap_in_force-bitmap) at c.fill.ensures)
+    (rw (c.octets_in-section.ensures, c.packing_of-packing.ensures, marks (goal.at.returns-in-Simple c).After-bitmap_in_force-bitmap) at c.fill.ensures) in
+    record { values_after = rows.0; presence_after = rows.1 }
 
 pub returns-in-Complex : goal.returns-in-Complex
 returns-in-Complex c =
-    field_rows c.args.file.now c.args.description c.requires.decodable.0 (runs c.args.values.now c.args.presence.now)
+    let rows = field_rows c.args.file.now c.args.description c.requires.decodable.0 (runs c.args.values.now c.args.presence.now)
     (groups_size c.args.file.now c.args.description c.requires.decodable.0 c.in-Complex.is) c.requires.stretch.0
-    (rw (c.octets_in-section.ensures, c.packing_of-packing.ensures, marks (goal.at.returns-in-Complex c).After-bitmap_in_force-bitmap) at c.fill-in-Complex.ensures)
+    (rw (c.octets_in-section.ensures, c.packing_of-packing.ensures, marks (goal.at.returns-in-Complex c).After-bitmap_in_force-bitmap) at c.fill-in-Complex.ensures) in
+    record { values_after = rows.0; presence_after = rows.1 }

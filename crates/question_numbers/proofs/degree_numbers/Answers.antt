@@ -25,20 +25,3 @@ signed-requires-in-Degrees c = omega (arith, (degrees_held (goal.at.signed-requi
 
 pub signed-requires-in-Lambert : goal.signed-requires-in-Lambert
 signed-requires-in-Lambert c = omega (arith, (lambert_held (goal.at.signed-requires-in-Lambert c).In-Lambert).0)
-
-pub returns-in-Degrees : goal.returns-in-Degrees
-returns-in-Degrees c =
-    (λ i.
-    (to_z-of_z {w = w64} (record { sfits = c.signed.type-inv }) ∙ c.signed.ensures) i
-    ∷ to_z_pos w64 (cast-t9 first).sfits i
-    ∷ (to_z-of_z {w = w64} (record { sfits = c.signed-in-Degrees.type-inv }) ∙ c.signed-in-Degrees.ensures) i
-    ∷ to_z_pos w64 (cast-t11 second).sfits i
-    ∷ to_z_pos w64 (cast-t12 third).sfits i
-    ∷ to_z_pos w64 (cast-t13 c).sfits i
-    ∷ [])
-    ∙ sym (ap degree_numbers c.in-Degrees.is)
-
-pub returns-in-Lambert : goal.returns-in-Lambert
-returns-in-Lambert c =
-    (λ i. (to_z-of_z {w = w64} (record { sfits = c.signed-in-Lambert.type-inv }) ∙ c.signed-in-Lambert.ensures) i ∷ to_z_pos w64 (cast-t15 c).sfits i ∷ pos 0 ∷ pos 0 ∷ pos 0 ∷ pos 0 ∷ [])
-    ∙ sym (ap degree_numbers c.in-Lambert.is)

@@ -11,14 +11,7 @@ use Rattle.question_numbers.proofs.level_numbers.Goals as goal
 
 pub signed-requires : goal.signed-requires
 signed-requires c =
-    let level = c.level-1.given in
-    omega (arith, c.requires, ap factor_size level.1)
+    omega (arith, c.requires, ap factor_size c.in-At.is)
 
 pub returns-in-Absent : goal.returns-in-Absent
 returns-in-Absent c = rw c.in-Absent.is
-
-pub returns-in-At : goal.returns-in-At
-returns-in-At c =
-    let level = c.level-1.given in
-    (λ i. pos 1 ∷ (to_z-of_z {w = w64} (record { sfits = c.signed.type-inv }) ∙ c.signed.ensures) i ∷ to_z_pos w64 (cast-t6 c).sfits i ∷ [])
-    ∙ sym (ap level_numbers level.1)

@@ -1,4 +1,5 @@
 -- `question_numbers::put_definition` meets its contract: four pieces are put one behind another.
+use borrow.Author.Rules.{rules}
 use mathlib.Core.Path.{subst}
 use mathlib.Core.List.{List, map, ◌∷◌, []}
 use native.Mathlib.Omega.{arith}
@@ -17,7 +18,7 @@ returns c =
     (map pos (d.category ∷ d.parameter ∷ d.process ∷ d.surface ∷ [])) (level_numbers d.level) (product_numbers d.product) (time_numbers d.valid)
     (omega (arith, c.requires, level_length d.level, product_length d.product))
     (subst (λ (piece : List ℤ). Puts c.args.run.now c.args.at piece c.put-level.new.run c.put-level.result)
-    (λ i. to_z_pos w64 (cast-t12 c).sfits i ∷ to_z_pos w64 (cast-t13 c).sfits i ∷ to_z_pos w64 (cast-t14 c).sfits i ∷ to_z_pos w64 (cast-t15 c).sfits i ∷ [])
+    (λ i. to_z_pos w64 {n = d.category} (search rules) i ∷ to_z_pos w64 {n = d.parameter} (search rules) i ∷ to_z_pos w64 {n = d.process} (search rules) i ∷ to_z_pos w64 {n = d.surface} (search rules) i ∷ [])
     c.put-level.ensures)
     (rw c.level_numbers.ensures at c.put-product.ensures)
     (rw c.product_numbers.ensures at c.put-valid.ensures)

@@ -1,4 +1,5 @@
 -- `question_numbers::put_field` meets its contract: four pieces are put one behind another.
+use borrow.Author.Rules.{rules}
 use mathlib.Core.Path.{ap, subst}
 use mathlib.Core.List.{List, map, ◌∷◌, []}
 use native.Mathlib.Omega.{arith}
@@ -34,7 +35,7 @@ returns c =
     puts-four c.args.run.now 0
     (map pos (d.discipline ∷ d.identification.status ∷ [])) (time_numbers d.identification.reference) (grid_numbers d.grid) (definition_numbers d.definition)
     (omega (arith, c.requires, grid_length d.grid, definition_length d.definition))
-    (subst (λ (piece : List ℤ). Puts c.args.run.now 0 piece c.put-reference.new.run c.put-reference.result) (λ i. to_z_pos w64 (cast-t11 c).sfits i ∷ to_z_pos w64 (cast-t12 c).sfits i ∷ []) c.put-reference.ensures)
+    (subst (λ (piece : List ℤ). Puts c.args.run.now 0 piece c.put-reference.new.run c.put-reference.result) (λ i. to_z_pos w64 {n = d.discipline} (search rules) i ∷ to_z_pos w64 {n = d.identification.status} (search rules) i ∷ []) c.put-reference.ensures)
     (rw c.time_numbers.ensures at c.put-frame.ensures)
     c.put_grid-definition.ensures
     c.put_definition.ensures

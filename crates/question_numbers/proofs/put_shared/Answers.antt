@@ -62,6 +62,6 @@ returns c =
     c.put_field-representation.ensures
     (rw c.representation_numbers.ensures at c.put-presence.ensures)
     (subst (λ (piece : List ℤ). Puts c.put-presence.new.run c.put-presence.result piece c.put-starts.new.run c.put-starts.result)
-    (λ i. (to_z-of_z {w = w64} (record { sfits = indicator.type-inv }) ∙ indicator.ensures) i ∷ [])
+    (λ i. (to_z-of_z {w = w64} (record { sfits = indicator.type_inv }) ∙ indicator.ensures) i ∷ [])
     c.put-starts.ensures)
     (rw c.start_numbers.ensures at c.put.ensures)

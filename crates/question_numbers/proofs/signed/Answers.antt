@@ -14,14 +14,6 @@ pub overflow_sub-result : goal.overflow_sub-result
 overflow_sub-result c =
     subst (λ (z : ℤ). SFits w64 (pos 0 -ℤ z)) (sym (to_z_pos w64 {n = c.args.number.size} (omega (arith, c.requires)))) (below_fits c.args.number.size (omega (arith, c.requires)))
 
-pub returns-then-number : goal.returns-then-number
-returns-then-number c =
-    let number = c.args.number in
-    to_z-of_z {w = w64} (sub-result c)
-    ∙ ap (λ (z : ℤ). pos 0 -ℤ z) (to_z_pos w64 {n = number.size} (omega (arith, c.requires)))
-    ∙ below_zero number.size
-    ∙ ap (λ (b : Bool). whole_of b number.size) (sym c.if-number.true)
-
 pub returns-else-number : goal.returns-else-number
 returns-else-number c =
     let number = c.args.number in

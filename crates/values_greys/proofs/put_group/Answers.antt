@@ -40,7 +40,7 @@ put_group_each-requires c =
     let done = 4 * c.fours_in-fours.result in
     let few = (foured (goal.at.put_group_each-requires c).After-fours_in-fours).few in
     let goes = c.put_group_fours-last.ensures.group_goes in
-    rw (c.put_group_fours-last.auto.1.1.1.1.0 ∙ c.requires.limits.1) (record { limits = (limits_on a.section.now a.group a.latest.x a.latest.before done goes c.requires.limits.0, few, omega arith); group_kept = ap is_kept (behind_all a.section.now a.group a.latest.x a.latest.before done goes few) ∙ c.requires.group_kept; scaled_to = (c.requires.scaled_to.0, left_below a.section.now a.group a.latest.x a.latest.before done goes a.scale few c.requires.scaled_to.1) })
+    rw (c.put_group_fours-last.auto.greys ∙ c.requires.limits.1) (record { limits = (limits_on a.section.now a.group a.latest.x a.latest.before done goes c.requires.limits.0, few, omega arith); group_kept = ap is_kept (behind_all a.section.now a.group a.latest.x a.latest.before done goes few) ∙ c.requires.group_kept; scaled_to = (c.requires.scaled_to.0, left_below a.section.now a.group a.latest.x a.latest.before done goes a.scale few c.requires.scaled_to.1) })
 
 pub returns : goal.returns
 returns c =
@@ -48,4 +48,4 @@ returns c =
     let done = 4 * c.fours_in-fours.result in
     let few = (foured (goal.at.returns c).After-fours_in-fours).few in
     let goes = c.put_group_fours-last.ensures.group_goes in
-    let told = rw (c.put_group_fours-last.auto.1.1.1.1.0 ∙ c.requires.limits.1) at c.put_group_each.ensures in record { group_goes = sym (behind_all a.section.now a.group a.latest.x a.latest.before done goes few) ∙ told.0; greys_after = greys_joined a.section.now a.group a.latest.x a.latest.before done goes a.scale a.greys.now few (sym c.requires.limits.1) c.put_group_fours-last.ensures.greys_after told.1 }
+    let told = rw (c.put_group_fours-last.auto.greys ∙ c.requires.limits.1) at c.put_group_each.ensures in record { group_goes = sym (behind_all a.section.now a.group a.latest.x a.latest.before done goes few) ∙ told.group_goes; greys_after = greys_joined a.section.now a.group a.latest.x a.latest.before done goes a.scale a.greys.now few (sym c.requires.limits.1) c.put_group_fours-last.ensures.greys_after told.greys_after }

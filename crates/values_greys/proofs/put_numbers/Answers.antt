@@ -96,7 +96,7 @@ loop-i-preserved c =
     )
 
 pub shape_of-greys : goal.shape_of-greys
-shape_of-greys c = c.loop-i.invariant.2 ∙ c.put_fours.auto.1.1.1.1.0
+shape_of-greys c = c.loop-i.invariant.2 ∙ c.put_fours.auto.greys
 
 pub returns : goal.returns
 returns c =

@@ -13,7 +13,9 @@ put_simple-requires c =
     rw (lent_length c.args.bitmap.now c.args.greys.now c.args.n c.requires.bits_bound.1) (record { bits_bound = (c.requires.bits_bound.0, omega (arith, fit, c.requires.bits_bound.1.0)); scaled_to = c.requires.scaled_to })
 
 pub spread-requires : goal.spread-requires
-spread-requires c = spread_ready c.args.bitmap.now c.args.greys.now c.args.n c.requires.bits_bound.1 _ c.greys-1.given.1
+spread-requires c =
+    let ready = spread_ready c.args.bitmap.now c.args.greys.now c.args.n c.requires.bits_bound.1 _ c.greys-1.given.1 in
+    record { greys_len_bound = ready.0; greys_value = ready.1 }
 
 pub returns : goal.returns
 returns c =
