@@ -15,7 +15,9 @@ code_of-requires c =
     omega arith
 
 pub returns-in-Points : goal.returns-in-Points
-returns-in-Points c = (ap decode_code (sym c.in-Points.is ∙ c.decode.ensures.value), c.decode.ensures.1)
+returns-in-Points c =
+    record { value = ap decode_code (sym c.in-Points.is ∙ c.decode.ensures.value); values_after = c.decode.ensures.values_after; presence_after = c.decode.ensures.presence_after }
 
 pub returns-in-Refused : goal.returns-in-Refused
-returns-in-Refused c = (c.code_of.ensures ∙ ap decode_code (sym c.in-Refused.is ∙ c.decode.ensures.value), c.decode.ensures.1)
+returns-in-Refused c =
+    record { value = c.code_of.ensures ∙ ap decode_code (sym c.in-Refused.is ∙ c.decode.ensures.value); values_after = c.decode.ensures.values_after; presence_after = c.decode.ensures.presence_after }

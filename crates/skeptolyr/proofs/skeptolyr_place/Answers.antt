@@ -38,7 +38,7 @@ pub put_position-requires : goal.put_position-requires
 put_position-requires c =
     let a = c.args in
     let passed = degrees_passes a.file.now a.k a.n (length a.position.now) (is_known (goal.at.put_position-requires c).In-Grid) in
-    ((is_known (goal.at.put_position-requires c).In-Grid).ranges, rw c.position_of-lies.ensures (placed_held c.in-Grid.grid passed.0 a.n passed.1 (is_known (goal.at.put_position-requires c).In-Grid).below))
+    ((is_known (goal.at.put_position-requires c).In-Grid).fits, rw c.position_of-lies.ensures (placed_held c.in-Grid.grid passed.0 a.n passed.1 (is_known (goal.at.put_position-requires c).In-Grid).below))
 
 pub code_of-requires : goal.code_of-requires
 code_of-requires c =

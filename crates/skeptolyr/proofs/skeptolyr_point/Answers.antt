@@ -46,13 +46,17 @@ code_of-requires c = omega (arith, answerable (goal.at.code_of-requires c).After
 pub returns-in-Value : goal.returns-in-Value
 returns-in-Value c =
     let is = c.in-Value.is in
-    answers (goal.at.returns-in-Value c).After-point_into is refl (first_set c.args.value.now c.in-Value.double (answerable (goal.at.returns-in-Value c).After-point_into is))
+    let answer = answers (goal.at.returns-in-Value c).After-point_into is refl (first_set c.args.value.now c.in-Value.double (answerable (goal.at.returns-in-Value c).After-point_into is)) in
+    record { value = answer.0; value_after = answer.1 }
 
 pub returns-in-Missing : goal.returns-in-Missing
 unfolding of_bits
 returns-in-Missing c =
     let is = c.in-Missing.is in
-    answers (goal.at.returns-in-Missing c).After-point_into is refl (first_set c.args.value.now _ (answerable (goal.at.returns-in-Missing c).After-point_into is))
+    let answer = answers (goal.at.returns-in-Missing c).After-point_into is refl (first_set c.args.value.now _ (answerable (goal.at.returns-in-Missing c).After-point_into is)) in
+    record { value = answer.0; value_after = answer.1 }
 
 pub returns-in-Refused : goal.returns-in-Refused
-returns-in-Refused c = answers (goal.at.returns-in-Refused c).After-point_into c.in-Refused.is c.code_of.ensures refl
+returns-in-Refused c =
+    let answer = answers (goal.at.returns-in-Refused c).After-point_into c.in-Refused.is c.code_of.ensures refl in
+    record { value = answer.0; value_after = answer.1 }

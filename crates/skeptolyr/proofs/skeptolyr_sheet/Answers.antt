@@ -38,7 +38,7 @@ pub put_sheet-requires : goal.put_sheet-requires
 put_sheet-requires c =
     let a = c.args in
     let passed = lambert_passes a.file.now a.k a.n (length a.place.now) (is_known (goal.at.put_sheet-requires c).In-Grid) in
-    ((is_known (goal.at.put_sheet-requires c).In-Grid).ranges, rw c.sheet_of-lies.ensures (sheet_held c.in-Grid.grid passed.0 a.n passed.1 (omega (arith, (is_known (goal.at.put_sheet-requires c).In-Grid).below, passed.2))))
+    ((is_known (goal.at.put_sheet-requires c).In-Grid).fits, rw c.sheet_of-lies.ensures (sheet_held c.in-Grid.grid passed.0 a.n passed.1 (omega (arith, (is_known (goal.at.put_sheet-requires c).In-Grid).below, passed.2))))
 
 pub code_of-requires : goal.code_of-requires
 code_of-requires c =
