@@ -30,21 +30,21 @@ use Rattle.theorems_demands.specs.Pictured.{octet_in, Draws, AsSeen}
 use Rattle.theorems_demands.specs.Demand3.{RebuiltNear, AllNear}
 use Rattle.theorems_calls.specs.Promises.{Promises}
 use Rattle.tiling.specs.Tiling as Tiling
-use Rattle.tiling.proofs as tiling
+use Rattle.tiling.specs.contracts as tiling
 use Rattle.question.specs.Describe as Describe
-use Rattle.question.proofs as question
+use Rattle.question.specs.contracts as question
 use Rattle.question_place.specs.Place as Place
-use Rattle.question_place.proofs as question-place
-use Rattle.question_decode.proofs as question-decode
+use Rattle.question_place.specs.contracts as question_place
+use Rattle.question_decode.specs.contracts as question_decode
 use Rattle.question_point.specs.Point as Single
-use Rattle.question_point.proofs as question-point
+use Rattle.question_point.specs.contracts as question_point
 use Rattle.question_picture.specs.Picture.{picture_length}
 use Rattle.question_picture.specs.Picture as Picture
-use Rattle.question_picture.proofs as question-picture
+use Rattle.question_picture.specs.contracts as question_picture
 use Rattle.doubles.specs.Doubles.{rebuild_one}
-use Rattle.doubles.proofs as doubles
-use Rattle.skeptolyr.proofs as skeptolyr
-use Rattle.listing_file.proofs as listing
+use Rattle.doubles.specs.contracts as doubles
+use Rattle.skeptolyr.specs.contracts as skeptolyr
+use Rattle.listing_file.specs.contracts as listing
 
 -- RULES, "What C is given": a refusal is 2^63 + number x 2^32 + place, from which number and place can be taken again. It is the first that applies.
 pub record Refuses (file : List ℕ) (q : Question) (code : ℕ) : Type 0 where
@@ -172,48 +172,48 @@ call_of k start before = record { k = k; start = start; before = before }
 -- run; of place, sheet and point file, k, n and the run; of decode file, k, start, values and presence; of list the text and the input; of print the text, the run that was read
 -- into, and the two answers of reading.
 pub record Calls : Type 2 where
-  pub check : Promises skeptolyr.skeptolyr_check.ended (λ _. skeptolyr.skeptolyr_check.clauses) (λ _ given answer _. Checks given.0.now answer)
+  pub check : Promises skeptolyr.skeptolyr_check.ended (λ _ _. skeptolyr.skeptolyr_check.clauses) (λ _ given answer _. Checks given.0.now answer)
   pub describe :
-      Promises skeptolyr.skeptolyr_describe.ended (λ _. skeptolyr.skeptolyr_describe.clauses)
+      Promises skeptolyr.skeptolyr_describe.ended (λ _ _. skeptolyr.skeptolyr_describe.clauses)
       (λ _ given answer lasts. DescribeKeeps given.0.now given.1.0 given.1.1.0.now answer lasts.1.1.0)
   pub place :
-      Promises skeptolyr.skeptolyr_place.ended (λ _. skeptolyr.skeptolyr_place.clauses)
+      Promises skeptolyr.skeptolyr_place.ended (λ _ _. skeptolyr.skeptolyr_place.clauses)
       (λ _ given answer lasts. PlaceKeeps given.0.now given.1.0 given.1.1.0 given.1.1.1.0.now answer lasts.1.1.1.0)
   pub sheet :
-      Promises skeptolyr.skeptolyr_sheet.ended (λ _. skeptolyr.skeptolyr_sheet.clauses)
+      Promises skeptolyr.skeptolyr_sheet.ended (λ _ _. skeptolyr.skeptolyr_sheet.clauses)
       (λ _ given answer lasts. SheetKeeps given.0.now given.1.0 given.1.1.0 given.1.1.1.0.now answer lasts.1.1.1.0)
   pub point :
-      Promises skeptolyr.skeptolyr_point.ended (λ _. skeptolyr.skeptolyr_point.clauses)
+      Promises skeptolyr.skeptolyr_point.ended (λ _ _. skeptolyr.skeptolyr_point.clauses)
       (λ _ given answer lasts. PointKeeps given.0.now given.1.0 given.1.1.0 given.1.1.1.0.now answer lasts.1.1.1.0)
   pub picture :
-      Promises skeptolyr.skeptolyr_picture.ended (λ _. skeptolyr.skeptolyr_picture.clauses)
+      Promises skeptolyr.skeptolyr_picture.ended (λ _ _. skeptolyr.skeptolyr_picture.clauses)
       (λ _ given answer lasts. PictureKeeps given.0.now given.1.0 given.1.1.0.now answer lasts.1.1.0)
   pub decode :
-      Promises skeptolyr.skeptolyr_decode.ended (λ _. skeptolyr.skeptolyr_decode.clauses)
+      Promises skeptolyr.skeptolyr_decode.ended (λ _ _. skeptolyr.skeptolyr_decode.clauses)
       (λ _ given answer lasts.
       DecodeKeeps given.0.now
       (call_of given.1.0 given.1.1.0 (runs_of given.1.1.1.0.now given.1.1.1.1.0.now))
       answer
       (runs_of lasts.1.1.1.0 lasts.1.1.1.1.0))
-  pub list : Promises listing.list.ended (λ _. listing.list.clauses) (λ _ given answer lasts. Lists given.1.0.now given.0.now lasts.0 answer)
+  pub list : Promises listing.list.ended (λ _ _. listing.list.clauses) (λ _ given answer lasts. Lists given.1.0.now given.0.now lasts.0 answer)
   pub print :
-      Promises listing.print.ended (λ _. listing.print.clauses)
+      Promises listing.print.ended (λ _ _. listing.print.clauses)
       (λ _ given answer lasts. ListingPrints given.1.0.now given.1.1.0 given.1.1.1.0 given.0.now lasts.0 answer)
 
 -- The questions in Rattle: each answers what the demands speak of, and decode and picture leave the runs that they speak of.
 pub record RattleCalls : Type 2 where
-  pub check : Promises tiling.check.ended (λ _. tiling.check.clauses) (λ _ given answer _. answer ≡ Tiling.check given.0.now)
-  pub describe : Promises question.describe.ended (λ _. question.describe.clauses) (λ _ given answer _. answer ≡ Describe.describe given.0.now given.1.0)
-  pub place : Promises question-place.place.ended (λ _. question-place.place.clauses) (λ _ given answer _. answer ≡ Place.place given.0.now given.1.0 given.1.1.0)
-  pub sheet : Promises question-place.sheet.ended (λ _. question-place.sheet.clauses) (λ _ given answer _. answer ≡ Place.sheet given.0.now given.1.0 given.1.1.0)
-  pub point : Promises question-point.point.ended (λ _. question-point.point.clauses) (λ _ given answer _. answer ≡ Single.point given.0.now given.1.0 given.1.1.0)
+  pub check : Promises tiling.check.ended (λ _ _. tiling.check.clauses) (λ _ given answer _. answer ≡ Tiling.check given.0.now)
+  pub describe : Promises question.describe.ended (λ _ _. question.describe.clauses) (λ _ given answer _. answer ≡ Describe.describe given.0.now given.1.0)
+  pub place : Promises question_place.place.ended (λ _ _. question_place.place.clauses) (λ _ given answer _. answer ≡ Place.place given.0.now given.1.0 given.1.1.0)
+  pub sheet : Promises question_place.sheet.ended (λ _ _. question_place.sheet.clauses) (λ _ given answer _. answer ≡ Place.sheet given.0.now given.1.0 given.1.1.0)
+  pub point : Promises question_point.point.ended (λ _ _. question_point.point.clauses) (λ _ given answer _. answer ≡ Single.point given.0.now given.1.0 given.1.1.0)
   pub picture :
-      Promises question-picture.picture.ended (λ _. question-picture.picture.clauses)
+      Promises question_picture.picture.ended (λ _ _. question_picture.picture.clauses)
       (λ _ given answer lasts.
       (answer ≡ Picture.pictured given.0.now given.1.0 (length given.1.1.0.now)) × (lasts.1.1.0 ≡ Picture.run_left given.0.now given.1.0 given.1.1.0.now))
   pub decode :
-      Promises question-decode.decode.ended (λ _. question-decode.decode.clauses)
+      Promises question_decode.decode.ended (λ _ _. question_decode.decode.clauses)
       (λ _ given answer lasts.
       let call = call_of given.1.0 given.1.1.0 (runs_of given.1.1.1.0.now given.1.1.1.1.0.now) in
       (answer ≡ answer_to given.0.now call) × (runs_of lasts.1.1.1.0 lasts.1.1.1.1.0 ≡ left_behind given.0.now call))
-  pub rebuild : Promises doubles.rebuild_one.ended (λ _. doubles.rebuild_one.clauses) (λ _ given answer _. answer ≡ rebuild_one given.0 given.1.0 given.1.1.0 given.1.1.1.0)
+  pub rebuild : Promises doubles.rebuild_one.ended (λ _ _. doubles.rebuild_one.clauses) (λ _ given answer _. answer ≡ rebuild_one given.0 given.1.0 given.1.1.0 given.1.1.1.0)

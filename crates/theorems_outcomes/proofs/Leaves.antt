@@ -2,94 +2,94 @@
 use mathlib.Core.Path.{refl}
 use Rattle.theorems_outcomes.specs.Determined.{Determined, SeenDetermined}
 use Rattle.theorems_outcomes.proofs.Facts.{alike, one}
-use Rattle.octets.proofs as octets
-use Rattle.section.proofs as section
-use Rattle.bits.proofs as bits
-use Rattle.bits_ones.proofs as bits-ones
-use Rattle.bits_reader.proofs as bits-reader
-use Rattle.refusals.proofs as refusals
-use Rattle.calendar.proofs as calendar
-use Rattle.text.proofs as text
-use Rattle.greys.proofs as greys
-use Rattle.doubles.proofs as doubles
+use Rattle.octets.specs.contracts as octets
+use Rattle.section.specs.contracts as section
+use Rattle.bits.specs.contracts as bits
+use Rattle.bits_ones.specs.contracts as bits_ones
+use Rattle.bits_reader.specs.contracts as bits_reader
+use Rattle.refusals.specs.contracts as refusals
+use Rattle.calendar.specs.contracts as calendar
+use Rattle.text.specs.contracts as text
+use Rattle.greys.specs.contracts as greys
+use Rattle.doubles.specs.contracts as doubles
 
 -- A place is a record of one number.
-pub octets_place_of : Determined octets.place_of.ended (λ _. octets.place_of.clauses)
+pub octets_place_of : Determined octets.place_of.ended (λ _ _. octets.place_of.clauses)
 octets_place_of _ 𝓤 𝓛 _ _ _ _ _ _ _ _ _ _ = one 𝓤 (λ p q. (λ i. record { 0 = alike p q i }, refl))
 
-pub octets_first_bit : Determined octets.first_bit.ended (λ _. octets.first_bit.clauses)
+pub octets_first_bit : Determined octets.first_bit.ended (λ _ _. octets.first_bit.clauses)
 octets_first_bit _ 𝓤 𝓛 _ _ _ _ _ _ _ _ _ _ = one 𝓤 (λ p q. (λ i. record { 0 = alike p q i }, refl))
 
-pub octets_octet_holding : Determined octets.octet_holding.ended (λ _. octets.octet_holding.clauses)
+pub octets_octet_holding : Determined octets.octet_holding.ended (λ _ _. octets.octet_holding.clauses)
 octets_octet_holding _ 𝓤 𝓛 _ _ _ _ _ _ _ _ _ _ = one 𝓤 (λ p q. (λ i. record { 0 = alike p q i }, refl))
 
-pub octets_number_at : Determined octets.number_at.ended (λ _. octets.number_at.clauses)
+pub octets_number_at : Determined octets.number_at.ended (λ _ _. octets.number_at.clauses)
 octets_number_at _ 𝓤 𝓛 _ _ _ _ _ _ _ _ _ _ = one 𝓤 (λ p q. (alike p.0 q.0, refl))
 
-pub octets_sign_and_size : Determined octets.sign_and_size.ended (λ _. octets.sign_and_size.clauses)
+pub octets_sign_and_size : Determined octets.sign_and_size.ended (λ _ _. octets.sign_and_size.clauses)
 octets_sign_and_size _ 𝓤 𝓛 _ _ _ _ _ _ _ _ _ _ = one 𝓤 (λ p q. (alike p q, refl))
 
 -- Of the octets of a section, handed back as a part of the file, it is the octets that are seen.
-pub section_octet : Determined section.octet.ended (λ _. section.octet.clauses)
+pub section_octet : Determined section.octet.ended (λ _ _. section.octet.clauses)
 section_octet _ 𝓤 𝓛 _ _ _ _ _ _ _ _ _ _ = one 𝓤 (λ p q. (alike p.0 q.0, refl))
 
-pub section_held : Determined section.held.ended (λ _. section.held.clauses)
+pub section_held : Determined section.held.ended (λ _ _. section.held.clauses)
 section_held _ 𝓤 𝓛 _ _ _ _ _ _ _ _ _ _ = one 𝓤 (λ p q. (alike p.0 q.0, refl))
 
-pub section_held_signed : Determined section.held_signed.ended (λ _. section.held_signed.clauses)
+pub section_held_signed : Determined section.held_signed.ended (λ _ _. section.held_signed.clauses)
 section_held_signed _ 𝓤 𝓛 _ _ _ _ _ _ _ _ _ _ = one 𝓤 (λ p q. (alike p q, refl))
 
-pub section_length_of : Determined section.length_of.ended (λ _. section.length_of.clauses)
+pub section_length_of : Determined section.length_of.ended (λ _ _. section.length_of.clauses)
 section_length_of _ 𝓤 𝓛 _ _ _ _ _ _ _ _ _ _ = one 𝓤 (λ p q. (alike p.0 q.0, refl))
 
-pub section_octets_in : SeenDetermined section.octets_in.ended _ (λ _. (λ x. x.now)) (λ _. section.octets_in.clauses)
+pub section_octets_in : SeenDetermined section.octets_in.ended _ (λ _. (λ x. x.now)) (λ _ _. section.octets_in.clauses)
 section_octets_in _ 𝓤 𝓛 _ _ _ _ _ _ _ _ _ _ = one 𝓤 (λ p q. (alike p q, refl))
 
 -- A pair is a record of two numbers.
-pub bits_eight : Determined bits.eight.ended (λ _. bits.eight.clauses)
+pub bits_eight : Determined bits.eight.ended (λ _ _. bits.eight.clauses)
 bits_eight _ 𝓤 𝓛 _ _ _ _ _ _ _ _ _ _ = one 𝓤 (λ p q. (alike p q, refl))
 
-pub bits_bit_or_zero : Determined bits.bit_or_zero.ended (λ _. bits.bit_or_zero.clauses)
+pub bits_bit_or_zero : Determined bits.bit_or_zero.ended (λ _ _. bits.bit_or_zero.clauses)
 bits_bit_or_zero _ 𝓤 𝓛 _ _ _ _ _ _ _ _ _ _ = one 𝓤 (λ p q. (alike p q, refl))
 
-pub bits_bit_in : Determined bits.bit_in.ended (λ _. bits.bit_in.clauses)
+pub bits_bit_in : Determined bits.bit_in.ended (λ _ _. bits.bit_in.clauses)
 bits_bit_in _ 𝓤 𝓛 _ _ _ _ _ _ _ _ _ _ = one 𝓤 (λ p q. (alike p q, refl))
 
-pub bits_read_bits : Determined bits.read_bits.ended (λ _. bits.read_bits.clauses)
+pub bits_read_bits : Determined bits.read_bits.ended (λ _ _. bits.read_bits.clauses)
 bits_read_bits _ 𝓤 𝓛 _ _ _ _ _ _ _ _ _ _ = one 𝓤 (λ p q. (alike p q, refl))
 
-pub bits_read_wide : Determined bits.read_wide.ended (λ _. bits.read_wide.clauses)
+pub bits_read_wide : Determined bits.read_wide.ended (λ _ _. bits.read_wide.clauses)
 bits_read_wide _ 𝓤 𝓛 _ _ _ _ _ _ _ _ _ _ = one 𝓤 (λ p q. (alike p q, refl))
 
-pub bits_read_pair : Determined bits.read_pair.ended (λ _. bits.read_pair.clauses)
+pub bits_read_pair : Determined bits.read_pair.ended (λ _ _. bits.read_pair.clauses)
 bits_read_pair _ 𝓤 𝓛 _ _ _ _ _ _ _ _ _ _ = one 𝓤 (λ p q. (λ i. record { first = alike p.0 q.0 i; second = alike p.1 q.1 i }, refl))
 
-pub bits_read_four : Determined bits.read_four.ended (λ _. bits.read_four.clauses)
+pub bits_read_four : Determined bits.read_four.ended (λ _ _. bits.read_four.clauses)
 bits_read_four _ 𝓤 𝓛 _ _ _ _ _ _ _ _ _ _ =
     one 𝓤 (λ p q.
     (λ i. record { first = alike p.first q.first i; second = alike p.second q.second i; third = alike p.third q.third i; fourth = alike p.fourth q.fourth i }, refl))
 
-pub bits_fours_in : Determined bits.fours_in.ended (λ _. bits.fours_in.clauses)
+pub bits_fours_in : Determined bits.fours_in.ended (λ _ _. bits.fours_in.clauses)
 bits_fours_in _ 𝓤 𝓛 _ _ _ _ _ _ _ _ _ _ = one 𝓤 (λ p q. (alike p q, refl))
 
-pub bits_after : Determined bits.after.ended (λ _. bits.after.clauses)
+pub bits_after : Determined bits.after.ended (λ _ _. bits.after.clauses)
 bits_after _ 𝓤 𝓛 _ _ _ _ _ _ _ _ _ _ = one 𝓤 (λ p q. (λ i. record { 0 = alike p q i }, refl))
 
-pub bits_octets_of : Determined bits.octets_of.ended (λ _. bits.octets_of.clauses)
+pub bits_octets_of : Determined bits.octets_of.ended (λ _ _. bits.octets_of.clauses)
 bits_octets_of _ 𝓤 𝓛 _ _ _ _ _ _ _ _ _ _ = one 𝓤 (λ p q. (alike p q, refl))
 
-pub bits_octets_of_run : Determined bits.octets_of_run.ended (λ _. bits.octets_of_run.clauses)
+pub bits_octets_of_run : Determined bits.octets_of_run.ended (λ _ _. bits.octets_of_run.clauses)
 bits_octets_of_run _ 𝓤 𝓛 _ _ _ _ _ _ _ _ _ _ = one 𝓤 (λ p q. (alike p q, refl))
 
-pub bits_ones_ones_before : Determined bits-ones.ones_before.ended (λ _. bits-ones.ones_before.clauses)
+pub bits_ones_ones_before : Determined bits_ones.ones_before.ended (λ _ _. bits_ones.ones_before.clauses)
 bits_ones_ones_before _ 𝓤 𝓛 _ _ _ _ _ _ _ _ _ _ = one 𝓤 (λ p q. (alike p q, refl))
 
 -- A reader is a record of its run and its place: it is the very run that it was made of.
-pub bits_reader_new : Determined bits-reader.new.ended (λ _. bits-reader.new.clauses)
+pub bits_reader_new : Determined bits_reader.new.ended (λ _ _. bits_reader.new.clauses)
 bits_reader_new _ 𝓤 𝓛 _ _ _ _ _ _ _ _ _ _ = one 𝓤 (λ p q. (λ i. record { run = alike p.0 q.0 i; at = alike p.1 q.1 i }, refl))
 
 -- What was read is a record of its number, or its pair, and the reader behind it; what was taken, of the numbers and the place behind them.
-pub bits_reader_next : Determined bits-reader.next.ended (λ _. bits-reader.next.clauses)
+pub bits_reader_next : Determined bits_reader.next.ended (λ _ _. bits_reader.next.clauses)
 bits_reader_next _ 𝓤 𝓛 _ _ _ _ _ _ _ _ _ _ =
     one 𝓤 (λ p q. (
       λ i. record {
@@ -99,7 +99,7 @@ bits_reader_next _ 𝓤 𝓛 _ _ _ _ _ _ _ _ _ _ =
       refl,
     ))
 
-pub bits_reader_next_pair : Determined bits-reader.next_pair.ended (λ _. bits-reader.next_pair.clauses)
+pub bits_reader_next_pair : Determined bits_reader.next_pair.ended (λ _ _. bits_reader.next_pair.clauses)
 bits_reader_next_pair _ 𝓤 𝓛 _ _ _ _ _ _ _ _ _ _ =
     one 𝓤 (λ p q. (
       λ i. record {
@@ -109,10 +109,10 @@ bits_reader_next_pair _ 𝓤 𝓛 _ _ _ _ _ _ _ _ _ _ =
       refl,
     ))
 
-pub bits_reader_take : Determined bits-reader.take.ended (λ _. bits-reader.take.clauses)
+pub bits_reader_take : Determined bits_reader.take.ended (λ _ _. bits_reader.take.clauses)
 bits_reader_take _ 𝓤 𝓛 _ _ _ _ _ _ _ _ _ _ = one 𝓤 (λ p q. (λ i. record { number = alike p.0 q.0 i; next = record { 0 = alike p.1 q.1 i } }, refl))
 
-pub bits_reader_next_four : Determined bits-reader.next_four.ended (λ _. bits-reader.next_four.clauses)
+pub bits_reader_next_four : Determined bits_reader.next_four.ended (λ _ _. bits_reader.next_four.clauses)
 bits_reader_next_four _ 𝓤 𝓛 _ _ _ _ _ _ _ _ _ _ =
     one 𝓤 (λ p q. (
       λ i. record {
@@ -122,7 +122,7 @@ bits_reader_next_four _ 𝓤 𝓛 _ _ _ _ _ _ _ _ _ _ =
       refl,
     ))
 
-pub bits_reader_four_at : Determined bits-reader.four_at.ended (λ _. bits-reader.four_at.clauses)
+pub bits_reader_four_at : Determined bits_reader.four_at.ended (λ _ _. bits_reader.four_at.clauses)
 bits_reader_four_at _ 𝓤 𝓛 _ _ _ _ _ _ _ _ _ _ =
     one 𝓤 (λ p q. (
       λ i. record {
@@ -135,7 +135,7 @@ bits_reader_four_at _ 𝓤 𝓛 _ _ _ _ _ _ _ _ _ _ =
       refl,
     ))
 
-pub bits_reader_take_four : Determined bits-reader.take_four.ended (λ _. bits-reader.take_four.clauses)
+pub bits_reader_take_four : Determined bits_reader.take_four.ended (λ _ _. bits_reader.take_four.clauses)
 bits_reader_take_four _ 𝓤 𝓛 _ _ _ _ _ _ _ _ _ _ =
     one 𝓤 (λ p q. (
       λ i. record {
@@ -149,54 +149,54 @@ bits_reader_take_four _ 𝓤 𝓛 _ _ _ _ _ _ _ _ _ _ =
     ))
 
 -- Numbers and codes of refusals.
-pub refusals_number_of : Determined refusals.number_of.ended (λ _. refusals.number_of.clauses)
+pub refusals_number_of : Determined refusals.number_of.ended (λ _ _. refusals.number_of.clauses)
 refusals_number_of _ 𝓤 𝓛 _ _ _ _ _ _ _ _ _ _ = one 𝓤 (λ p q. (alike p q, refl))
 
-pub refusals_code_of : Determined refusals.code_of.ended (λ _. refusals.code_of.clauses)
+pub refusals_code_of : Determined refusals.code_of.ended (λ _ _. refusals.code_of.clauses)
 refusals_code_of _ 𝓤 𝓛 _ _ _ _ _ _ _ _ _ _ = one 𝓤 (λ p q. (alike p q, refl))
 
 -- Times.
-pub calendar_time_at : Determined calendar.time_at.ended (λ _. calendar.time_at.clauses)
+pub calendar_time_at : Determined calendar.time_at.ended (λ _ _. calendar.time_at.clauses)
 calendar_time_at _ 𝓤 𝓛 _ _ _ _ _ _ _ _ _ _ = one 𝓤 (λ p q. (alike p q, refl))
 
-pub calendar_plus : Determined calendar.plus.ended (λ _. calendar.plus.clauses)
+pub calendar_plus : Determined calendar.plus.ended (λ _ _. calendar.plus.clauses)
 calendar_plus _ 𝓤 𝓛 _ _ _ _ _ _ _ _ _ _ = one 𝓤 (λ p q. (alike p q, refl))
 
-pub calendar_compare : Determined calendar.compare.ended (λ _. calendar.compare.clauses)
+pub calendar_compare : Determined calendar.compare.ended (λ _ _. calendar.compare.clauses)
 calendar_compare _ 𝓤 𝓛 _ _ _ _ _ _ _ _ _ _ = one 𝓤 (λ p q. (alike p q, refl))
 
-pub calendar_digits : Determined calendar.digits.ended (λ _. calendar.digits.clauses)
+pub calendar_digits : Determined calendar.digits.ended (λ _ _. calendar.digits.clauses)
 calendar_digits _ 𝓤 𝓛 _ _ _ _ _ _ _ _ _ _ = one 𝓤 (λ p q. (alike p q, refl))
 
 -- Text that is put into a lent run: where it ends, and what the run holds afterwards.
-pub text_put : Determined text.put.ended (λ _. text.put.clauses)
+pub text_put : Determined text.put.ended (λ _ _. text.put.clauses)
 text_put _ 𝓤 𝓛 _ _ _ _ _ _ _ _ _ _ = one 𝓤 (λ p q. (alike p.1 q.1, λ i. (alike p.0 q.0 i, (tt, (tt, tt)))))
 
-pub text_put_decimal : Determined text.put_decimal.ended (λ _. text.put_decimal.clauses)
+pub text_put_decimal : Determined text.put_decimal.ended (λ _ _. text.put_decimal.clauses)
 text_put_decimal _ 𝓤 𝓛 _ _ _ _ _ _ _ _ _ _ = one 𝓤 (λ p q. (alike p.1 q.1, λ i. (alike p.0 q.0 i, (tt, (tt, tt)))))
 
-pub text_put_short : Determined text.put_short.ended (λ _. text.put_short.clauses)
+pub text_put_short : Determined text.put_short.ended (λ _ _. text.put_short.clauses)
 text_put_short _ 𝓤 𝓛 _ _ _ _ _ _ _ _ _ _ = one 𝓤 (λ p q. (alike p.1 q.1, λ i. (alike p.0 q.0 i, (tt, (tt, tt)))))
 
-pub text_digits_in : Determined text.digits_in.ended (λ _. text.digits_in.clauses)
+pub text_digits_in : Determined text.digits_in.ended (λ _ _. text.digits_in.clauses)
 text_digits_in _ 𝓤 𝓛 _ _ _ _ _ _ _ _ _ _ = one 𝓤 (λ p q. (alike p q, refl))
 
 -- Greys.
-pub greys_scale_of : Determined greys.scale_of.ended (λ _. greys.scale_of.clauses)
+pub greys_scale_of : Determined greys.scale_of.ended (λ _ _. greys.scale_of.clauses)
 greys_scale_of _ 𝓤 𝓛 _ _ _ _ _ _ _ _ _ _ = one 𝓤 (λ p q. (alike p q, refl))
 
-pub greys_grey_of : Determined greys.grey_of.ended (λ _. greys.grey_of.clauses)
+pub greys_grey_of : Determined greys.grey_of.ended (λ _ _. greys.grey_of.clauses)
 greys_grey_of _ 𝓤 𝓛 _ _ _ _ _ _ _ _ _ _ = one 𝓤 (λ p q. (alike p q, refl))
 
 -- Doubles.
-pub doubles_is_finite : Determined doubles.is_finite.ended (λ _. doubles.is_finite.clauses)
+pub doubles_is_finite : Determined doubles.is_finite.ended (λ _ _. doubles.is_finite.clauses)
 doubles_is_finite _ 𝓤 𝓛 _ _ _ _ _ _ _ _ _ _ = one 𝓤 (λ p q. (alike p q, refl))
 
-pub doubles_packing_of : Determined doubles.packing_of.ended (λ _. doubles.packing_of.clauses)
+pub doubles_packing_of : Determined doubles.packing_of.ended (λ _ _. doubles.packing_of.clauses)
 doubles_packing_of _ 𝓤 𝓛 _ _ _ _ _ _ _ _ _ _ = one 𝓤 (λ p q. (alike p q, refl))
 
-pub doubles_rebuild : Determined doubles.rebuild.ended (λ _. doubles.rebuild.clauses)
+pub doubles_rebuild : Determined doubles.rebuild.ended (λ _ _. doubles.rebuild.clauses)
 doubles_rebuild _ 𝓤 𝓛 _ _ _ _ _ _ _ _ _ _ = one 𝓤 (λ p q. (alike p q, refl))
 
-pub doubles_rebuild_one : Determined doubles.rebuild_one.ended (λ _. doubles.rebuild_one.clauses)
+pub doubles_rebuild_one : Determined doubles.rebuild_one.ended (λ _ _. doubles.rebuild_one.clauses)
 doubles_rebuild_one _ 𝓤 𝓛 _ _ _ _ _ _ _ _ _ _ = one 𝓤 (λ p q. (alike p q, refl))

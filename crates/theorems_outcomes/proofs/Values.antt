@@ -4,13 +4,13 @@ use Prim.Native.Nat.{ℕ}
 use native.Mathlib.Omega.{arith}
 use Rattle.theorems_outcomes.specs.Determined.{Determined}
 use Rattle.theorems_outcomes.proofs.Facts.{alike, one, two}
-use Rattle.values_points.proofs as values-points
-use Rattle.values_group.proofs as values-group
-use Rattle.values_simple.proofs as values-simple
-use Rattle.values_complex.proofs as values-complex
-use Rattle.values_largest.proofs as values-largest
-use Rattle.values_greys.proofs as values-greys
-use Rattle.values_picture.proofs as values-picture
+use Rattle.values_points.specs.contracts as values_points
+use Rattle.values_group.specs.contracts as values_group
+use Rattle.values_simple.specs.contracts as values_simple
+use Rattle.values_complex.specs.contracts as values_complex
+use Rattle.values_largest.specs.contracts as values_largest
+use Rattle.values_greys.specs.contracts as values_greys
+use Rattle.values_picture.specs.contracts as values_picture
 use Rattle.values_points.proofs.Laws.{written_determined}
 use Rattle.values_points.proofs.Missing.{cleared_determined}
 use Rattle.values_group.specs.Group.{Gains}
@@ -18,23 +18,23 @@ use Rattle.values_group.specs.declared.Worked as declared
 use Rattle.values_group.specs.declared.Worked.TheVariants as Worked
 
 -- The relations between a point, the next one and both runs leave nothing open.
-pub values_points_clear_missing : Determined values-points.clear_missing.ended (λ _. values-points.clear_missing.clauses)
+pub values_points_clear_missing : Determined values_points.clear_missing.ended (λ _ _. values_points.clear_missing.clauses)
 values_points_clear_missing _ 𝓤 𝓛 _ _ _ _ _ _ _ _ _ _ =
     one 𝓤 (λ p q. let same = cleared_determined p q in (same.0, λ i. (tt, ((same.1 i).doubles, ((same.1 i).marks, (tt, tt))))))
 
-pub values_points_write : Determined values-points.write.ended (λ _. values-points.write.clauses)
+pub values_points_write : Determined values_points.write.ended (λ _ _. values_points.write.clauses)
 values_points_write _ 𝓤 𝓛 _ _ _ _ _ _ _ _ _ _ =
     one 𝓤 (λ p q. let same = written_determined p q in (same.0, λ i. (tt, (tt, (tt, ((same.1 i).doubles, ((same.1 i).marks, (tt, tt))))))))
 
 -- Neither does the length of a block.
-pub values_points_block_length : Determined values-points.block_length.ended (λ _. values-points.block_length.clauses)
+pub values_points_block_length : Determined values_points.block_length.ended (λ _ _. values_points.block_length.clauses)
 values_points_block_length _ 𝓤 𝓛 _ _ _ _ _ _ _ _ _ _ = one 𝓤 (λ p q. (alike p q, refl))
 
 -- Neither do whether a point is present, and how many before it are.
-pub values_points_is_present : Determined values-points.is_present.ended (λ _. values-points.is_present.clauses)
+pub values_points_is_present : Determined values_points.is_present.ended (λ _ _. values_points.is_present.clauses)
 values_points_is_present _ 𝓤 𝓛 _ _ _ _ _ _ _ _ _ _ = one 𝓤 (λ p q. (alike p q, refl))
 
-pub values_points_rank_of : Determined values-points.rank_of.ended (λ _. values-points.rank_of.clauses)
+pub values_points_rank_of : Determined values_points.rank_of.ended (λ _ _. values_points.rank_of.clauses)
 values_points_rank_of _ 𝓤 𝓛 _ _ _ _ _ _ _ _ _ _ = one 𝓤 (λ p q. (alike p q, refl))
 
 -- Where integers are kept, the last two of them are told.
@@ -42,10 +42,10 @@ kept_determined : {worked : declared.Worked} {x y before earlier : ℕ} → work
 kept_determined p q = (cc, cc)
 
 -- What the integers of a group lead to leaves nothing open, and neither does what a block of them holds.
-pub values_group_judge : Determined values-group.judge.ended (λ _. values-group.judge.clauses)
+pub values_group_judge : Determined values_group.judge.ended (λ _ _. values_group.judge.clauses)
 values_group_judge _ 𝓤 𝓛 _ _ _ _ _ _ _ _ _ _ = one 𝓤 (λ p q. (alike p q, refl))
 
-pub values_group_unpack : Determined values-group.unpack.ended (λ _. values-group.unpack.clauses)
+pub values_group_unpack : Determined values_group.unpack.ended (λ _ _. values_group.unpack.clauses)
 values_group_unpack _ 𝓤 𝓛 _ _ _ _ _ _ _ _ _ _ =
     two 𝓤 (λ p q.
     let kept = kept_determined p.0 q.0 in
@@ -55,58 +55,58 @@ values_group_unpack _ 𝓤 𝓛 _ _ _ _ _ _ _ _ _ _ =
 gain_determined : {gain other base lowered : ℕ} → Gains gain base lowered → Gains other base lowered → gain ≡ other
 gain_determined p q = omega (arith, p.2, p.3, q.2, q.3)
 
-pub values_group_gain_of : Determined values-group.gain_of.ended (λ _. values-group.gain_of.clauses)
+pub values_group_gain_of : Determined values_group.gain_of.ended (λ _ _. values_group.gain_of.clauses)
 values_group_gain_of _ 𝓤 𝓛 _ _ _ _ _ _ _ _ _ _ = one 𝓤 (λ p q. (gain_determined p q, refl))
 
-pub values_group_integer_behind : Determined values-group.integer_behind.ended (λ _. values-group.integer_behind.clauses)
+pub values_group_integer_behind : Determined values_group.integer_behind.ended (λ _ _. values_group.integer_behind.clauses)
 values_group_integer_behind _ 𝓤 𝓛 _ _ _ _ _ _ _ _ _ _ = one 𝓤 (λ p q. (alike p q, refl))
 
-pub values_group_element : Determined values-group.element.ended (λ _. values-group.element.clauses)
+pub values_group_element : Determined values_group.element.ended (λ _ _. values_group.element.clauses)
 values_group_element _ 𝓤 𝓛 _ _ _ _ _ _ _ _ _ _ = one 𝓤 (λ p q. (alike p q, refl))
 
 -- What a block holds of simple packing, one integer of it, and both runs of a field in it.
-pub values_simple_unpack : Determined values-simple.unpack.ended (λ _. values-simple.unpack.clauses)
+pub values_simple_unpack : Determined values_simple.unpack.ended (λ _ _. values_simple.unpack.clauses)
 values_simple_unpack _ 𝓤 𝓛 _ _ _ _ _ _ _ _ _ _ = one 𝓤 (λ p q. (refl, λ i. (tt, (tt, (tt, (alike p q i, tt))))))
 
-pub values_simple_integer_at : Determined values-simple.integer_at.ended (λ _. values-simple.integer_at.clauses)
+pub values_simple_integer_at : Determined values_simple.integer_at.ended (λ _ _. values_simple.integer_at.clauses)
 values_simple_integer_at _ 𝓤 𝓛 _ _ _ _ _ _ _ _ _ _ = one 𝓤 (λ p q. (alike p q, refl))
 
-pub values_simple_fill : Determined values-simple.fill.ended (λ _. values-simple.fill.clauses)
+pub values_simple_fill : Determined values_simple.fill.ended (λ _ _. values_simple.fill.clauses)
 values_simple_fill _ 𝓤 𝓛 _ _ _ _ _ _ _ _ _ _ = one 𝓤 (λ p q. (refl, λ i. (tt, (tt, (tt, (tt, (tt, (alike p.0 q.0 i, (alike p.1 q.1 i, tt)))))))))
 
-pub values_simple_window_fours : Determined values-simple.window_fours.ended (λ _. values-simple.window_fours.clauses)
+pub values_simple_window_fours : Determined values_simple.window_fours.ended (λ _ _. values_simple.window_fours.clauses)
 values_simple_window_fours _ 𝓤 𝓛 _ _ _ _ _ _ _ _ _ _ = one 𝓤 (λ p q. (alike p q, refl))
 
 -- A group, and where the next one starts.
-pub values_complex_group_at : Determined values-complex.group_at.ended (λ _. values-complex.group_at.clauses)
+pub values_complex_group_at : Determined values_complex.group_at.ended (λ _ _. values_complex.group_at.clauses)
 values_complex_group_at _ 𝓤 𝓛 _ _ _ _ _ _ _ _ _ _ = one 𝓤 (λ p q. (λ i. record { group = alike p.0 q.0 i; next = alike p.1 q.1 i }, refl))
 
 -- Whether the integers of a field in complex packing are in their range, one of them, and both runs.
-pub values_complex_is_in_range : Determined values-complex.is_in_range.ended (λ _. values-complex.is_in_range.clauses)
+pub values_complex_is_in_range : Determined values_complex.is_in_range.ended (λ _ _. values_complex.is_in_range.clauses)
 values_complex_is_in_range _ 𝓤 𝓛 _ _ _ _ _ _ _ _ _ _ = one 𝓤 (λ p q. (alike p q, refl))
 
-pub values_complex_integer_at : Determined values-complex.integer_at.ended (λ _. values-complex.integer_at.clauses)
+pub values_complex_integer_at : Determined values_complex.integer_at.ended (λ _ _. values_complex.integer_at.clauses)
 values_complex_integer_at _ 𝓤 𝓛 _ _ _ _ _ _ _ _ _ _ = one 𝓤 (λ p q. (alike p q, refl))
 
-pub values_complex_fill : Determined values-complex.fill.ended (λ _. values-complex.fill.clauses)
+pub values_complex_fill : Determined values_complex.fill.ended (λ _ _. values_complex.fill.clauses)
 values_complex_fill _ 𝓤 𝓛 _ _ _ _ _ _ _ _ _ _ = one 𝓤 (λ p q. (refl, λ i. (tt, (tt, (tt, (tt, (alike p.0 q.0 i, (alike p.1 q.1 i, tt))))))))
 
 -- The largest integer of a field, in either packing.
-pub values_largest_of_simple : Determined values-largest.of_simple.ended (λ _. values-largest.of_simple.clauses)
+pub values_largest_of_simple : Determined values_largest.of_simple.ended (λ _ _. values_largest.of_simple.clauses)
 values_largest_of_simple _ 𝓤 𝓛 _ _ _ _ _ _ _ _ _ _ = one 𝓤 (λ p q. (alike p q, refl))
 
-pub values_largest_of_complex : Determined values-largest.of_complex.ended (λ _. values-largest.of_complex.clauses)
+pub values_largest_of_complex : Determined values_largest.of_complex.ended (λ _ _. values_largest.of_complex.clauses)
 values_largest_of_complex _ 𝓤 𝓛 _ _ _ _ _ _ _ _ _ _ = one 𝓤 (λ p q. (alike p q, refl))
 
 -- The greys of its integers, and of its points.
-pub values_greys_put_simple : Determined values-greys.put_simple.ended (λ _. values-greys.put_simple.clauses)
+pub values_greys_put_simple : Determined values_greys.put_simple.ended (λ _ _. values_greys.put_simple.clauses)
 values_greys_put_simple _ 𝓤 𝓛 _ _ _ _ _ _ _ _ _ _ = one 𝓤 (λ p q. (refl, λ i. (tt, (tt, (tt, (alike p q i, tt))))))
 
-pub values_greys_put_complex : Determined values-greys.put_complex.ended (λ _. values-greys.put_complex.clauses)
+pub values_greys_put_complex : Determined values_greys.put_complex.ended (λ _ _. values_greys.put_complex.clauses)
 values_greys_put_complex _ 𝓤 𝓛 _ _ _ _ _ _ _ _ _ _ = one 𝓤 (λ p q. (refl, λ i. (tt, (tt, (tt, (alike p q i, tt))))))
 
-pub values_picture_paint_simple : Determined values-picture.paint_simple.ended (λ _. values-picture.paint_simple.clauses)
+pub values_picture_paint_simple : Determined values_picture.paint_simple.ended (λ _ _. values_picture.paint_simple.clauses)
 values_picture_paint_simple _ 𝓤 𝓛 _ _ _ _ _ _ _ _ _ _ = one 𝓤 (λ p q. (refl, λ i. (tt, (tt, (tt, (tt, (tt, (alike p q i, tt))))))))
 
-pub values_picture_paint_complex : Determined values-picture.paint_complex.ended (λ _. values-picture.paint_complex.clauses)
+pub values_picture_paint_complex : Determined values_picture.paint_complex.ended (λ _ _. values_picture.paint_complex.clauses)
 values_picture_paint_complex _ 𝓤 𝓛 _ _ _ _ _ _ _ _ _ _ = one 𝓤 (λ p q. (refl, λ i. (tt, (tt, (tt, (tt, (tt, (alike p q i, tt))))))))
