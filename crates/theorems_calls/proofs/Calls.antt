@@ -330,51 +330,51 @@ told_by_lem Keeps {code} {answer} {run} {left} e l kept = subst (λ (n : ℕ). K
 pub calls : Calls
 calls =
     record {
-      check = λ _ 𝓤 _ _ _ _ _ given _ answer _. from_one 𝓤 (λ e. subst (Checks given.0.now) (sym e) (checks_so given.0.now));
+      check = λ _ 𝓤 _ _ _ _ given _ answer _. from_one 𝓤 (λ e. subst (Checks given.0.now) (sym e) (checks_so given.0.now));
       describe =
-          λ _ 𝓤 _ _ _ _ _ given _ answer lasts.
+          λ _ 𝓤 _ _ _ _ given _ answer lasts.
           from_two 𝓤
           (λ e left. told_by_lem (DescribeKeeps given.0.now given.1.0 given.1.1.0.now) e left (describes_so given.0.now given.1.0 given.1.1.0.now));
       place =
-          λ _ 𝓤 _ _ _ _ _ given _ answer lasts.
+          λ _ 𝓤 _ _ _ _ given _ answer lasts.
           from_two 𝓤
           (λ e left.
           told_by_lem (PlaceKeeps given.0.now given.1.0 given.1.1.0 given.1.1.1.0.now) e left
           (places_so given.0.now given.1.0 given.1.1.0 given.1.1.1.0.now));
       sheet =
-          λ _ 𝓤 _ _ _ _ _ given _ answer lasts.
+          λ _ 𝓤 _ _ _ _ given _ answer lasts.
           from_two 𝓤
           (λ e left.
           told_by_lem (SheetKeeps given.0.now given.1.0 given.1.1.0 given.1.1.1.0.now) e left
           (sheets_so given.0.now given.1.0 given.1.1.0 given.1.1.1.0.now));
       point =
-          λ _ 𝓤 _ _ _ _ _ given _ answer lasts.
+          λ _ 𝓤 _ _ _ _ given _ answer lasts.
           from_two 𝓤
           (λ e left.
           told_by_lem (PointKeeps given.0.now given.1.0 given.1.1.0 given.1.1.1.0.now) e left
           (points_so given.0.now given.1.0 given.1.1.0 given.1.1.1.0.now));
       picture =
-          λ _ 𝓤 _ _ _ _ _ given _ answer lasts.
+          λ _ 𝓤 _ _ _ _ given _ answer lasts.
           from_two 𝓤
           (λ e left. told_by_lem (PictureKeeps given.0.now given.1.0 given.1.1.0.now) e left (draws_so given.0.now given.1.0 given.1.1.0.now));
       decode =
-          λ _ 𝓤 _ _ _ _ _ given _ answer lasts.
+          λ _ 𝓤 _ _ _ _ given _ answer lasts.
           from_three 𝓤
           (decodes_by given.0.now
           (call_of given.1.0 given.1.1.0 (runs_of given.1.1.1.0.now given.1.1.1.1.0.now)) answer (runs_of lasts.1.1.1.0 lasts.1.1.1.1.0));
-      list = λ _ 𝓤 _ _ _ _ _ given _ answer lasts. from_one 𝓤 (λ p. record { text = listing_of given.1.0.now; listed = listed_so given.1.0.now; put = p });
-      print = λ _ 𝓤 _ _ _ _ _ given _ answer lasts. from_one 𝓤 (prints_so given.1.0.now given.1.1.0 given.1.1.1.0 given.0.now lasts.0 answer);
+      list = λ _ 𝓤 _ _ _ _ given _ answer lasts. from_one 𝓤 (λ p. record { text = listing_of given.1.0.now; listed = listed_so given.1.0.now; put = p });
+      print = λ _ 𝓤 _ _ _ _ given _ answer lasts. from_one 𝓤 (prints_so given.1.0.now given.1.1.0 given.1.1.1.0 given.0.now lasts.0 answer);
     }
 
 pub rattle_calls : RattleCalls
 rattle_calls =
     record {
-      check = λ _ 𝓤 _ _ _ _ _ _ _ _ _. from_one 𝓤 (λ e. e);
-      describe = λ _ 𝓤 _ _ _ _ _ _ _ _ _. from_one 𝓤 (λ e. e);
-      place = λ _ 𝓤 _ _ _ _ _ _ _ _ _. from_one 𝓤 (λ e. e);
-      sheet = λ _ 𝓤 _ _ _ _ _ _ _ _ _. from_one 𝓤 (λ e. e);
-      point = λ _ 𝓤 _ _ _ _ _ _ _ _ _. from_one 𝓤 (λ e. e);
-      picture = λ _ 𝓤 _ _ _ _ _ _ _ _ _. from_two 𝓤 (λ e left. (e, left));
-      decode = λ _ 𝓤 _ _ _ _ _ _ _ _ _. from_three 𝓤 (λ e v p. (e, λ i. record { values = v i; presence = p i }));
-      rebuild = λ _ 𝓤 _ _ _ _ _ _ _ _ _. from_one 𝓤 (λ e. e);
+      check = λ _ 𝓤 _ _ _ _ _ _ _ _. from_one 𝓤 (λ e. e);
+      describe = λ _ 𝓤 _ _ _ _ _ _ _ _. from_one 𝓤 (λ e. e);
+      place = λ _ 𝓤 _ _ _ _ _ _ _ _. from_one 𝓤 (λ e. e);
+      sheet = λ _ 𝓤 _ _ _ _ _ _ _ _. from_one 𝓤 (λ e. e);
+      point = λ _ 𝓤 _ _ _ _ _ _ _ _. from_one 𝓤 (λ e. e);
+      picture = λ _ 𝓤 _ _ _ _ _ _ _ _. from_two 𝓤 (λ e left. (e, left));
+      decode = λ _ 𝓤 _ _ _ _ _ _ _ _. from_three 𝓤 (λ e v p. (e, λ i. record { values = v i; presence = p i }));
+      rebuild = λ _ 𝓤 _ _ _ _ _ _ _ _. from_one 𝓤 (λ e. e);
     }
