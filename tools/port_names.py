@@ -1,7 +1,7 @@
 #!/usr/bin/env python3
 """Spells the repository's own definitions, constructors, fields and lemmas as today's Rattle spells its own: words in snake case, joined by '_'.
 
-usage: python3 tools/port_names.py        once, at the top, after /opt/rattle/port/port.py
+usage: python3 tools/port_names.py        once, at the top, after the script port.py of the kit
 
 numbersOf -> numbers_of, fits-eight -> fits_eight, demand-1 -> demand_1. Types and modules keep their capitals, and so do the functions and the exported names of
 src/, and every name that Rattle makes. The edits of must-fail/ and the names that the pages give in backquotes follow. A lemma that would have its function's name ends in _lem.

@@ -6,11 +6,8 @@ use Rattle.calendar.specs.declared.Time.{Time}
 use Rattle.calendar.specs.declared.Unit as declaredUnit
 use Rattle.calendar.specs.declared.Unit.TheVariants as Unit
 use Rattle.calendar.specs.declared.Reading.{Reading}
-use Rattle.calendar.specs.declared.Reading.TheVariants as Reading
 use Rattle.calendar.specs.declared.Later.{Later}
-use Rattle.calendar.specs.declared.Later.TheVariants as Later
 use Rattle.calendar.specs.declared.Order.{Order}
-use Rattle.calendar.specs.declared.Order.TheVariants as Order
 
 -- Every fourth year is a leap year, of the hundredth years only every fourth.
 unfoldable pub is_leap : ℕ → Bool

@@ -18,7 +18,6 @@ use Rattle.tiling.specs.declared.Checked.TheVariants as Checked
 use Rattle.tiling.specs.Tiling.{check}
 use Rattle.tiling.proofs.Bounds.{check_few}
 use Rattle.question.specs.declared.Described.{Described}
-use Rattle.question.specs.declared.Described.TheVariants as Described
 use Rattle.question.specs.Describe.{describe}
 use Rattle.laws_rows.specs.Rows.{Puts}
 use Rattle.text.specs.Text.{ascii, decimal}

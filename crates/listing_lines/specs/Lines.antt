@@ -7,7 +7,6 @@ use Rattle.calendar.specs.Calendar.{digits_of}
 use Rattle.section_3_geometry.specs.declared.Frame.{Frame}
 use Rattle.section_3_geometry.specs.Geometry.{frame_of}
 use Rattle.section_4.specs.declared.Product.{Product}
-use Rattle.section_4.specs.declared.Product.TheVariants as Product
 use Rattle.section_4.specs.declared.ProductDefinition.{ProductDefinition}
 use Rattle.question.specs.declared.Description.{Description}
 use Rattle.text.specs.Text.{ascii, decimal}

@@ -20,7 +20,6 @@ use Rattle.section_3_geometry.specs.Geometry.{points_of}
 use Rattle.section_5_groups.specs.declared.Grouping.{Grouping}
 use Rattle.section_5_groups.proofs.Laws.{Grouped}
 use Rattle.section_5.specs.declared.Template.{Template}
-use Rattle.section_5.specs.declared.Template.TheVariants as Template
 use Rattle.section_5.proofs.Laws.{represented, represented_bits, represented_groups}
 use Rattle.section_6.specs.Presence.{present_before}
 use Rattle.section_6.proofs.Laws.{marked_present, marked_most}

@@ -16,14 +16,12 @@ use Rattle.tiling_sections.specs.declared.Located.{Located}
 use Rattle.tiling_sections.specs.Walk.{nowhere}
 use Rattle.tiling_sections.specs.Laid.{Laid}
 use Rattle.tiling.specs.declared.Found.{Found}
-use Rattle.tiling.specs.declared.Found.TheVariants as Found
 use Rattle.tiling.specs.Tiling.{largest, InFile, tiled, refused, tiling_of, found_in, find}
 use Rattle.tiling.proofs.Bounds.{tiled_sound, field_laid, refused_placed}
 use Rattle.section_3_geometry.specs.Geometry.{points_of}
 use Rattle.section_3.proofs.Laws.{Passes, grid_passes, grid_few}
 use Rattle.question.specs.declared.Description.{Description}
 use Rattle.question.specs.declared.Described.{Described}
-use Rattle.question.specs.declared.Described.TheVariants as Described
 use Rattle.question.specs.Judged.{Judged}
 use Rattle.question.specs.Describe.{discipline_at, refused_at, described_at, field_in, describe}
 use Rattle.question.specs.Judge.{Asks, has_room, is_decodable, description_length, asked_of, judge}

@@ -3,7 +3,6 @@
 use Rattle.std.specs.Prelude.{ℕ, cond, List, ltb, length, get_or}
 use Rattle.section.specs.Sections.{octet}
 use Rattle.refusals.specs.declared.Why.{Why}
-use Rattle.refusals.specs.declared.Why.TheVariants as Why
 use Rattle.refusals.specs.Refusals.{refusal}
 use Rattle.tiling_sections.specs.declared.Located.{Located}
 use Rattle.tiling_sections.specs.Walk.{nowhere}
@@ -11,30 +10,23 @@ use Rattle.tiling.specs.Tiling.{InFile, tiling_of}
 use Rattle.tiling.specs.Tiling as Tiling
 use Rattle.section_1.specs.declared.Identification.{Identification}
 use Rattle.section_1.specs.declared.Identified.{Identified}
-use Rattle.section_1.specs.declared.Identified.TheVariants as Identified
 use Rattle.section_1.specs.Identification.{identification_at}
 use Rattle.section_3_geometry.specs.declared.Grid.{Grid}
 use Rattle.section_3_geometry.specs.Geometry.{points_of}
 use Rattle.section_3.specs.declared.Gridded.{Gridded}
-use Rattle.section_3.specs.declared.Gridded.TheVariants as Gridded
 use Rattle.section_3.specs.Section3.{grid_at}
 use Rattle.section_4.specs.declared.ProductDefinition.{ProductDefinition}
 use Rattle.section_4.specs.declared.Defined.{Defined}
-use Rattle.section_4.specs.declared.Defined.TheVariants as Defined
 use Rattle.section_4.specs.Product.{product_definition_at}
 use Rattle.section_5.specs.declared.Representation.{Representation}
 use Rattle.section_5.specs.declared.Represented.{Represented}
-use Rattle.section_5.specs.declared.Represented.TheVariants as Represented
 use Rattle.section_5.specs.Representation.{representation_at}
 use Rattle.section_6.specs.declared.Presence.{Presence}
 use Rattle.section_6.specs.declared.Marked.{Marked}
-use Rattle.section_6.specs.declared.Marked.TheVariants as Marked
 use Rattle.section_6.specs.Presence.{presence_at}
 use Rattle.section_7.specs.declared.Packed.{Packed}
-use Rattle.section_7.specs.declared.Packed.TheVariants as Packed
 use Rattle.section_7.specs.Packing.{data_at}
 use Rattle.question.specs.declared.Described.{Described}
-use Rattle.question.specs.declared.Described.TheVariants as Described
 
 -- The discipline is octet 7 of section 0.
 abbrev pub discipline_at : List ℕ → Located → ℕ

@@ -2,12 +2,10 @@
 use Rattle.std.specs.Prelude.{ℕ, ◌+◌, ◌≡◌, Bool, ◌&&◌, cond, List, leb, ltb, ℤ}
 use Rattle.refusals.specs.declared.Why.TheVariants as Why
 use Rattle.section_3_geometry.specs.declared.Grid.{Grid}
-use Rattle.section_3_geometry.specs.declared.Grid.TheVariants as Grid
 use Rattle.section_3_geometry.specs.Geometry.{points_of}
 use Rattle.values_integers.specs.Integers.{integer_at, are_in_range}
 use Rattle.question.specs.declared.Description.{Description}
 use Rattle.question.specs.declared.Described.{Described}
-use Rattle.question.specs.declared.Described.TheVariants as Described
 use Rattle.question.specs.Describe.{refused_at, describe}
 
 -- What is asked of a field that is described: the numbers of its description, for which a run of this length is lent; or all its values, for which two runs of

@@ -3,24 +3,18 @@ use Rattle.std.specs.Prelude.{◌≡◌, List, ℕ}
 use Rattle.calendar.specs.declared.Time.{Time}
 use Rattle.tiling_sections.specs.declared.Located.{Located}
 use Rattle.section_1.specs.declared.Identified.{Identified}
-use Rattle.section_1.specs.declared.Identified.TheVariants as Identified
 use Rattle.section_1.specs.Identification.{identification_at}
 use Rattle.section_3_geometry.specs.Geometry.{points_of}
 use Rattle.section_3.specs.declared.Gridded.{Gridded}
-use Rattle.section_3.specs.declared.Gridded.TheVariants as Gridded
 use Rattle.section_3.specs.Section3.{grid_at}
 use Rattle.section_4.specs.declared.Defined.{Defined}
-use Rattle.section_4.specs.declared.Defined.TheVariants as Defined
 use Rattle.section_4.specs.Product.{product_definition_at}
 use Rattle.section_5.specs.declared.Represented.{Represented}
-use Rattle.section_5.specs.declared.Represented.TheVariants as Represented
 use Rattle.section_5.specs.declared.Representation.{Representation}
 use Rattle.section_5.specs.Representation.{representation_at}
 use Rattle.section_6.specs.declared.Marked.{Marked}
-use Rattle.section_6.specs.declared.Marked.TheVariants as Marked
 use Rattle.section_6.specs.Presence.{presence_at}
 use Rattle.section_7.specs.declared.Packed.{Packed}
-use Rattle.section_7.specs.declared.Packed.TheVariants as Packed
 use Rattle.section_7.specs.Packing.{data_at}
 use Rattle.question.specs.declared.Description.{Description}
 use Rattle.question.specs.Describe.{discipline_at}

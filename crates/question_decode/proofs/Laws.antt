@@ -31,12 +31,10 @@ use Rattle.values_integers.specs.Integers.{simple_integer}
 use Rattle.values_complex.specs.Complex.{size_in}
 use Rattle.question.specs.declared.Description.{Description}
 use Rattle.question.specs.declared.Described.{Described}
-use Rattle.question.specs.declared.Described.TheVariants as Described
 use Rattle.question.specs.Judge.{Asks, Known, integer_of, judge}
 use Rattle.question.proofs.Laws.{judge_placed, judged_values}
 use Rattle.question.proofs.Known.{located, judged, sections_laid, few_points, packed_present, simple_template, groups_integers}
 use Rattle.question_decode.specs.declared.Decoded.{Decoded}
-use Rattle.question_decode.specs.declared.Decoded.TheVariants as Decoded
 use Rattle.question_decode.specs.Decoding.{packing_by, present_of, rank_of, double_of, doubles_of, marks_of, outcome_by, outcome, answer_of}
 
 module _ (file : List ℕ) (d : Description) (known : Known file d) where

@@ -10,10 +10,8 @@ use Rattle.section_6.specs.Presence.{present_at, present_before}
 use Rattle.values_points.specs.Points.{double_at}
 use Rattle.question.specs.declared.Description.{Description}
 use Rattle.question.specs.declared.Described.{Described}
-use Rattle.question.specs.declared.Described.TheVariants as Described
 use Rattle.question.specs.Judge.{Asks, Known, integer_of, is_decodable, judge}
 use Rattle.question_decode.specs.declared.Decoded.{Decoded}
-use Rattle.question_decode.specs.declared.Decoded.TheVariants as Decoded
 
 -- The packing record by the numbers of section 5.
 abbrev pub packing_by : Representation → Packing

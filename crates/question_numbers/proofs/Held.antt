@@ -9,7 +9,6 @@ use Rattle.section.specs.Sections.{held}
 use Rattle.section_3_geometry.specs.declared.DegreeGrid.{DegreeGrid}
 use Rattle.section_3_geometry.specs.declared.LambertGrid.{LambertGrid}
 use Rattle.section_3_geometry.specs.declared.Grid.{Grid}
-use Rattle.section_3_geometry.specs.declared.Grid.TheVariants as Grid
 use Rattle.section_3_geometry.specs.Geometry as Degrees
 use Rattle.section_3_geometry.specs.Geometry.{points_in}
 use Rattle.section_3_geometry.proofs.Tests.{placed, cornered}

@@ -8,11 +8,8 @@ use lib.ListN.{length, length-append}
 use Rattle.laws_rows.specs.Rows.{Puts}
 use Rattle.laws_rows.proofs.Puts.{puts_then}
 use Rattle.section_3_geometry.specs.declared.Grid.{Grid}
-use Rattle.section_3_geometry.specs.declared.Grid.TheVariants as Grid
 use Rattle.section_4.specs.declared.Level.{Level}
-use Rattle.section_4.specs.declared.Level.TheVariants as Level
 use Rattle.section_4.specs.declared.Product.{Product}
-use Rattle.section_4.specs.declared.Product.TheVariants as Product
 use Rattle.section_4.specs.declared.ProductDefinition.{ProductDefinition}
 use Rattle.question.specs.declared.Description.{Description}
 use Rattle.question.specs.Judge.{description_length}

@@ -3,11 +3,9 @@ use Rattle.std.specs.Prelude.{ℕ, ◌≤◌, ◌<◌}
 use Rattle.section_3_geometry.specs.declared.DegreeGrid.{DegreeGrid}
 use Rattle.section_3_geometry.specs.declared.LambertGrid.{LambertGrid}
 use Rattle.section_3_geometry.specs.declared.Grid.{Grid}
-use Rattle.section_3_geometry.specs.declared.Grid.TheVariants as Grid
 use Rattle.section_3_geometry.specs.Geometry.{points_of}
 use Rattle.section_3_lambert.specs.declared.SheetPlace.{SheetPlace}
 use Rattle.section_4.specs.declared.Level.{Level}
-use Rattle.section_4.specs.declared.Level.TheVariants as Level
 use Rattle.section_5.specs.declared.Representation.{Representation}
 use Rattle.tiling_sections.specs.declared.Starts.{Starts}
 use Rattle.question.specs.declared.Description.{Description}

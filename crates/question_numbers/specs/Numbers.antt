@@ -8,15 +8,11 @@ use Rattle.tiling_sections.specs.Walk.{section_start}
 use Rattle.section_3_geometry.specs.declared.Position.{Position}
 use Rattle.section_3_geometry.specs.declared.Frame.{Frame}
 use Rattle.section_3_geometry.specs.declared.Grid.{Grid}
-use Rattle.section_3_geometry.specs.declared.Grid.TheVariants as Grid
 use Rattle.section_3_geometry.specs.Geometry.{points_in, frame_of}
 use Rattle.section_3_lambert.specs.declared.SheetPlace.{SheetPlace}
 use Rattle.section_4.specs.declared.Level.{Level}
-use Rattle.section_4.specs.declared.Level.TheVariants as Level
 use Rattle.section_4.specs.declared.Kind.{Kind}
-use Rattle.section_4.specs.declared.Kind.TheVariants as Kind
 use Rattle.section_4.specs.declared.Product.{Product}
-use Rattle.section_4.specs.declared.Product.TheVariants as Product
 use Rattle.section_4.specs.declared.ProductDefinition.{ProductDefinition}
 use Rattle.section_5.specs.declared.Representation.{Representation}
 use Rattle.section_5.specs.Representation.{template_number}

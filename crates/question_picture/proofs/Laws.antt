@@ -40,7 +40,6 @@ use Rattle.values_picture.specs.Painted.{grey_at}
 use Rattle.values_complex.specs.Complex.{values_in, integer_in, size_in}
 use Rattle.question.specs.declared.Description.{Description}
 use Rattle.question.specs.declared.Described.{Described}
-use Rattle.question.specs.declared.Described.TheVariants as Described
 use Rattle.question.specs.Describe.{describe}
 use Rattle.question.specs.Judge.{Known, integer_of, is_decodable}
 use Rattle.question.proofs.Laws.{describe_placed, seven_placed}
@@ -48,7 +47,6 @@ use Rattle.question.proofs.Known.{located, judged, few_points, packed_present, s
 use Rattle.question_decode.specs.Decoding.{present_of, rank_of}
 use Rattle.question_decode.proofs.Laws.{bitmap, bitmap_lies, simple_size, groups_size, field_ranked, rank_among}
 use Rattle.question_picture.specs.declared.Pictured.{Pictured}
-use Rattle.question_picture.specs.declared.Pictured.TheVariants as Pictured
 use Rattle.question_picture.specs.Picture.{counting, largest_present, greys_of, header, picture_length, point_integer, picture_of, gives, refuses, picture_asked, drawing_by, pictured_by, pictured, LargestOf}
 
 -- The largest X of the points that are present is the largest of those that are packed: as many as points are present.

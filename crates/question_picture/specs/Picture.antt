@@ -12,12 +12,10 @@ use Rattle.values_largest.specs.declared.Largest.TheVariants as Largest
 use Rattle.values_largest.specs.Largest.{larger, largest_in}
 use Rattle.question.specs.declared.Description.{Description}
 use Rattle.question.specs.declared.Described.{Described}
-use Rattle.question.specs.declared.Described.TheVariants as Described
 use Rattle.question.specs.Describe.{describe}
 use Rattle.question.specs.Judge.{integer_of, is_decodable}
 use Rattle.question_decode.specs.Decoding.{present_of, rank_of}
 use Rattle.question_picture.specs.declared.Pictured.{Pictured}
-use Rattle.question_picture.specs.declared.Pictured.TheVariants as Pictured
 
 -- Of two points that are present the larger X counts; one that is missing counts for nothing.
 abbrev pub counting : (largest mark x : ℕ) → ℕ

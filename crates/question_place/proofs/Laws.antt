@@ -15,22 +15,17 @@ use Rattle.section.specs.Sections.{held}
 use Rattle.section_3_geometry.specs.declared.DegreeGrid.{DegreeGrid}
 use Rattle.section_3_geometry.specs.declared.LambertGrid.{LambertGrid}
 use Rattle.section_3_geometry.specs.declared.Grid.{Grid}
-use Rattle.section_3_geometry.specs.declared.Grid.TheVariants as Grid
 use Rattle.section_3_geometry.specs.Geometry as Degrees
 use Rattle.section_3_geometry.specs.Geometry.{points_of, template_of}
 use Rattle.section_3_lambert.specs.Lambert as Lambert
 use Rattle.section_3.proofs.Laws.{Passes}
 use Rattle.question.specs.declared.Description.{Description}
 use Rattle.question.specs.declared.Described.{Described}
-use Rattle.question.specs.declared.Described.TheVariants as Described
 use Rattle.question.specs.Describe.{describe}
 use Rattle.question.proofs.Laws.{describe_placed, described_grid}
 use Rattle.question_place.specs.declared.Asked.{Asked}
-use Rattle.question_place.specs.declared.Asked.TheVariants as Asked
 use Rattle.question_place.specs.declared.OnDegrees.{OnDegrees}
-use Rattle.question_place.specs.declared.OnDegrees.TheVariants as OnDegrees
 use Rattle.question_place.specs.declared.OnLambert.{OnLambert}
-use Rattle.question_place.specs.declared.OnLambert.TheVariants as OnLambert
 use Rattle.question_place.specs.Place.{place_length, point_asked, degrees_if, degrees_asked, degrees_of, on_degrees, lambert_if, lambert_asked, lambert_of, on_lambert}
 
 -- A refusal names a place within the largest file that is taken.

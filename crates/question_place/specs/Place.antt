@@ -5,23 +5,16 @@ use Rattle.refusals.specs.Refusals.{refusal}
 use Rattle.section_3_geometry.specs.declared.DegreeGrid.{DegreeGrid}
 use Rattle.section_3_geometry.specs.declared.LambertGrid.{LambertGrid}
 use Rattle.section_3_geometry.specs.declared.Grid.{Grid}
-use Rattle.section_3_geometry.specs.declared.Grid.TheVariants as Grid
 use Rattle.section_3_geometry.specs.Geometry.{points_of}
 use Rattle.section_3_positions.specs.Quotients.{position_of}
 use Rattle.section_3_lambert.specs.Sheet.{sheet_of}
 use Rattle.question.specs.declared.Described.{Described}
-use Rattle.question.specs.declared.Described.TheVariants as Described
 use Rattle.question.specs.Describe.{describe}
 use Rattle.question_place.specs.declared.Asked.{Asked}
-use Rattle.question_place.specs.declared.Asked.TheVariants as Asked
 use Rattle.question_place.specs.declared.OnDegrees.{OnDegrees}
-use Rattle.question_place.specs.declared.OnDegrees.TheVariants as OnDegrees
 use Rattle.question_place.specs.declared.OnLambert.{OnLambert}
-use Rattle.question_place.specs.declared.OnLambert.TheVariants as OnLambert
 use Rattle.question_place.specs.declared.Placed.{Placed}
-use Rattle.question_place.specs.declared.Placed.TheVariants as Placed
 use Rattle.question_place.specs.declared.OnSheet.{OnSheet}
-use Rattle.question_place.specs.declared.OnSheet.TheVariants as OnSheet
 
 -- A place is told in two numbers.
 abbrev pub place_length : ℕ

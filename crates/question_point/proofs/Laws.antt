@@ -26,19 +26,16 @@ use Rattle.values_complex.specs.declared.Single.TheVariants as Single
 use Rattle.values_complex.specs.Complex.{integer_in, single_of}
 use Rattle.question.specs.declared.Description.{Description}
 use Rattle.question.specs.declared.Described.{Described}
-use Rattle.question.specs.declared.Described.TheVariants as Described
 use Rattle.question.specs.Describe.{describe}
 use Rattle.question.specs.Judge.{Known, integer_of}
 use Rattle.question.proofs.Laws.{describe_placed, seven_placed}
 use Rattle.question.proofs.Known.{run, simple_decodable, complex_template}
 use Rattle.question_place.specs.declared.Asked.{Asked}
-use Rattle.question_place.specs.declared.Asked.TheVariants as Asked
 use Rattle.question_place.specs.Place.{point_asked}
 use Rattle.question_place.proofs.Laws.{Within, taken_point, point_taken, point_within}
 use Rattle.question_decode.specs.Decoding.{packing_by, present_of, rank_of}
 use Rattle.question_decode.proofs.Laws.{bitmap, bitmap_lies, packed_marked, simple_size}
 use Rattle.question_point.specs.declared.Pointed.{Pointed}
-use Rattle.question_point.specs.declared.Pointed.TheVariants as Pointed
 use Rattle.question_point.specs.Point.{point_length, value_by, pointed_at, point_if, pointed_by, point_into, point}
 
 -- Of a field that is described: the integer numbered m alone, by either packing.

@@ -9,15 +9,12 @@ use Rattle.values_complex.specs.declared.Single.TheVariants as Single
 use Rattle.values_complex.specs.Complex.{single_of}
 use Rattle.question.specs.declared.Description.{Description}
 use Rattle.question.specs.declared.Described.{Described}
-use Rattle.question.specs.declared.Described.TheVariants as Described
 use Rattle.question.specs.Describe.{describe}
 use Rattle.question.specs.Judge.{integer_of}
 use Rattle.question_decode.specs.Decoding.{packing_by, present_of, rank_of}
 use Rattle.question_place.specs.declared.Asked.{Asked}
-use Rattle.question_place.specs.declared.Asked.TheVariants as Asked
 use Rattle.question_place.specs.Place.{point_asked}
 use Rattle.question_point.specs.declared.Pointed.{Pointed}
-use Rattle.question_point.specs.declared.Pointed.TheVariants as Pointed
 
 -- The value of a point is told in one number.
 abbrev pub point_length : ℕ

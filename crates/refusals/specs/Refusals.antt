@@ -2,7 +2,6 @@
 use Rattle.std.specs.Prelude.{ℕ, suc, ◌+◌, ◌*◌, ◌^◌, List, [], ◌∷◌, cond, ◌&&◌, eqb, leb}
 use Rattle.octets.specs.Places.{at}
 use Rattle.refusals.specs.declared.Why.{Why}
-use Rattle.refusals.specs.declared.Why.TheVariants as Why
 use Rattle.refusals.specs.declared.Refusal.{Refusal}
 
 -- A refusal at a place.

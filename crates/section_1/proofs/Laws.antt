@@ -9,7 +9,6 @@ use Rattle.octets.specs.Places.{place_of}
 use Rattle.octets.proofs.Cases.{apart, split, both}
 use Rattle.section.specs.Sections.{octet, held, length_at}
 use Rattle.calendar.specs.declared.Reading.{Reading}
-use Rattle.calendar.specs.declared.Reading.TheVariants as Reading
 use Rattle.calendar.specs.Calendar.{time_at, Gregorian}
 use Rattle.calendar.proofs.Laws.{read_is_gregorian}
 use Rattle.section_1.specs.declared.Identification.{Identification}

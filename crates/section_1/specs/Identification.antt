@@ -3,10 +3,8 @@ use Rattle.std.specs.Prelude.{ℕ, Bool, ◌&&◌, cond, List, eqb, leb}
 use Rattle.octets.specs.Places.{place_of}
 use Rattle.section.specs.Sections.{octet, held, length_at}
 use Rattle.calendar.specs.declared.Reading.{Reading}
-use Rattle.calendar.specs.declared.Reading.TheVariants as Reading
 use Rattle.calendar.specs.Calendar.{time_at}
 use Rattle.section_1.specs.declared.Identified.{Identified}
-use Rattle.section_1.specs.declared.Identified.TheVariants as Identified
 
 -- The length is 21; the centre, in octets 6-7, is 34, which is JMA in Tokyo; the time is that of the forecast's start (octet 12 is 1); the
 -- status, octet 20, is operational (0) or a trial (1).

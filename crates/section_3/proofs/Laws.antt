@@ -6,7 +6,6 @@ use Prim.Native.Nat.{ℕ, ◌≤◌}
 use Rattle.octets.proofs.Cases.{apart, split}
 use Rattle.section.specs.Sections.{held}
 use Rattle.section_3_geometry.specs.declared.Grid.{Grid}
-use Rattle.section_3_geometry.specs.declared.Grid.TheVariants as Grid
 use Rattle.section_3_geometry.specs.Geometry as Degrees
 use Rattle.section_3_geometry.specs.Geometry.{frame_of, points_of, template_of}
 use Rattle.section_3_geometry.proofs.Tests.{Counted}
@@ -14,7 +13,6 @@ use Rattle.section_3_geometry.proofs.Laws as degrees
 use Rattle.section_3_lambert.specs.Lambert as Lambert
 use Rattle.section_3_lambert.proofs.Laws as lambert
 use Rattle.section_3.specs.declared.Radius.{Radius}
-use Rattle.section_3.specs.declared.Radius.TheVariants as Radius
 use Rattle.section_3.specs.declared.Gridded.TheVariants as Gridded
 use Rattle.section_3.specs.Section3.{is_of, is_scanned, is_projected, radius_at, degree_numbers_at, degrees_by, degrees_at, lambert_numbers_at, lambert_by, lambert_at, grid_at}
 use Rattle.section_3.proofs.Tests.{of, degrees_taken, degrees_not_taken, lambert_taken, lambert_not_taken, in_degrees_lem, on_sheet_lem, of_neither}

@@ -9,9 +9,7 @@ use Rattle.section_3_geometry.specs.declared.Grid.TheVariants as Grid
 use Rattle.section_3_geometry.specs.Geometry.{is_taken}
 use Rattle.section_3_lambert.specs.Lambert.{is_lambert_grid}
 use Rattle.section_3.specs.declared.Radius.{Radius}
-use Rattle.section_3.specs.declared.Radius.TheVariants as Radius
 use Rattle.section_3.specs.declared.Gridded.{Gridded}
-use Rattle.section_3.specs.declared.Gridded.TheVariants as Gridded
 
 -- Four octets, all ones.
 abbrev pub all_ones : ℕ

@@ -6,7 +6,6 @@ use Rattle.section_3_geometry.specs.declared.Position.{Position}
 use Rattle.section_3_geometry.specs.declared.Frame.{Frame}
 use Rattle.section_3_geometry.specs.declared.DegreeGrid.{DegreeGrid}
 use Rattle.section_3_geometry.specs.declared.Grid.{Grid}
-use Rattle.section_3_geometry.specs.declared.Grid.TheVariants as Grid
 
 -- A grid has Ni x Nj points. Point n is in column n mod Ni and row n div Ni.
 abbrev pub points_in : Frame → ℕ

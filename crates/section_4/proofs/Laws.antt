@@ -11,30 +11,21 @@ use Rattle.octets.proofs.Cases.{apart, split}
 use Rattle.section.specs.Sections.{octet, held, held_signed}
 use Rattle.calendar.specs.declared.Time.{Time}
 use Rattle.calendar.specs.declared.Unit.{Unit}
-use Rattle.calendar.specs.declared.Unit.TheVariants as Unit
 use Rattle.calendar.specs.declared.Reading.{Reading}
-use Rattle.calendar.specs.declared.Reading.TheVariants as Reading
 use Rattle.calendar.specs.declared.Later.{Later}
-use Rattle.calendar.specs.declared.Later.TheVariants as Later
 use Rattle.calendar.specs.declared.Order.{Order}
-use Rattle.calendar.specs.declared.Order.TheVariants as Order
 use Rattle.calendar.specs.Calendar.{Gregorian, time_at, plus, ordered, fourteen_digits}
 use Rattle.calendar.proofs.Laws.{read_is_gregorian, plus_is_gregorian, same_digits_same_time}
 use Rattle.section_4.specs.declared.Kind.{Kind}
-use Rattle.section_4.specs.declared.Kind.TheVariants as Kind
 use Rattle.section_4.specs.declared.Level as declaredLevel
 use Rattle.section_4.specs.declared.Level.TheVariants as Level
 use Rattle.section_4.specs.declared.LevelReading.{LevelReading}
-use Rattle.section_4.specs.declared.LevelReading.TheVariants as LevelReading
 use Rattle.section_4.specs.declared.Product as declaredProduct
 use Rattle.section_4.specs.declared.Product.TheVariants as Product
 use Rattle.section_4.specs.declared.ProductReading.{ProductReading}
-use Rattle.section_4.specs.declared.ProductReading.TheVariants as ProductReading
 use Rattle.section_4.specs.declared.ProductDefinition.{ProductDefinition}
 use Rattle.section_4.specs.declared.Moment.{Moment}
-use Rattle.section_4.specs.declared.Moment.TheVariants as Moment
 use Rattle.section_4.specs.declared.Defined.{Defined}
-use Rattle.section_4.specs.declared.Defined.TheVariants as Defined
 use Rattle.section_4.specs.Product.{product_template_at, is_product, level_at, reached, later, agreed, ending, interval_of, product_at, defined_by, defined_at, product_definition_at}
 use Rattle.section_4.proofs.Tests.{valid_moment, end_moment}
 

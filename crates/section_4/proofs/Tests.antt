@@ -11,17 +11,12 @@ use Rattle.octets.proofs.Cases.{split, both, chosen}
 use Rattle.section.specs.Sections.{octet, held, length_at}
 use Rattle.calendar.specs.declared.Time.{Time}
 use Rattle.calendar.specs.declared.Reading.{Reading}
-use Rattle.calendar.specs.declared.Reading.TheVariants as Reading
 use Rattle.calendar.specs.Calendar.{time_at, ordered}
 use Rattle.section_4.specs.declared.Kind.{Kind}
-use Rattle.section_4.specs.declared.Kind.TheVariants as Kind
 use Rattle.section_4.specs.declared.Level.{Level}
 use Rattle.section_4.specs.declared.LevelReading.{LevelReading}
-use Rattle.section_4.specs.declared.LevelReading.TheVariants as LevelReading
 use Rattle.section_4.specs.declared.ProductReading.{ProductReading}
-use Rattle.section_4.specs.declared.ProductReading.TheVariants as ProductReading
 use Rattle.section_4.specs.declared.Moment.{Moment}
-use Rattle.section_4.specs.declared.Moment.TheVariants as Moment
 use Rattle.section_4.specs.declared.Defined.TheVariants as Defined
 use Rattle.section_4.specs.Product.{product_template_at, is_template, is_product, level_at, later, agreed, ending, interval_of, interval_at, product_at, defined_by, defined_at, product_definition_at}
 

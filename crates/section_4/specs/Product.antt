@@ -5,24 +5,16 @@ use Rattle.section.specs.Sections.{octet, held, held_signed, length_at}
 use Rattle.calendar.specs.declared.Time.{Time}
 use Rattle.calendar.specs.declared.Unit.TheVariants as Unit
 use Rattle.calendar.specs.declared.Reading.{Reading}
-use Rattle.calendar.specs.declared.Reading.TheVariants as Reading
 use Rattle.calendar.specs.declared.Later.{Later}
-use Rattle.calendar.specs.declared.Later.TheVariants as Later
 use Rattle.calendar.specs.declared.Order.{Order}
-use Rattle.calendar.specs.declared.Order.TheVariants as Order
 use Rattle.calendar.specs.Calendar.{time_at, plus, ordered}
 use Rattle.section_4.specs.declared.Level.TheVariants as Level
 use Rattle.section_4.specs.declared.LevelReading.{LevelReading}
-use Rattle.section_4.specs.declared.LevelReading.TheVariants as LevelReading
 use Rattle.section_4.specs.declared.Kind.{Kind}
-use Rattle.section_4.specs.declared.Kind.TheVariants as Kind
 use Rattle.section_4.specs.declared.Product.TheVariants as Product
 use Rattle.section_4.specs.declared.ProductReading.{ProductReading}
-use Rattle.section_4.specs.declared.ProductReading.TheVariants as ProductReading
 use Rattle.section_4.specs.declared.Moment.{Moment}
-use Rattle.section_4.specs.declared.Moment.TheVariants as Moment
 use Rattle.section_4.specs.declared.Defined.{Defined}
-use Rattle.section_4.specs.declared.Defined.TheVariants as Defined
 
 -- Octets 8-9 hold the template: 0, an instant, in a section of 34 octets, or 8, an interval, in one of 58.
 abbrev pub product_template_at : List ℕ → ℕ → ℕ

@@ -10,9 +10,7 @@ use Rattle.section_5_groups.specs.declared.Grouping.{Grouping}
 use Rattle.section_5_groups.specs.Groups.{grouping_at, is_grouping}
 use Rattle.section_5_groups.proofs.Laws.{Grouped, grouped}
 use Rattle.section_5.specs.declared.Template.{Template}
-use Rattle.section_5.specs.declared.Template.TheVariants as Template
 use Rattle.section_5.specs.declared.TemplateReading.{TemplateReading}
-use Rattle.section_5.specs.declared.TemplateReading.TheVariants as TemplateReading
 use Rattle.section_5.specs.declared.Representation.{Representation}
 use Rattle.section_5.specs.declared.Represented.TheVariants as Represented
 use Rattle.section_5.specs.Representation.{representation_with, is_scaled, data_template_at, represented_by, representation_at}

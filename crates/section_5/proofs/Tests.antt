@@ -14,7 +14,6 @@ use Rattle.doubles.specs.Doubles.{Scaled}
 use Rattle.section_5_groups.specs.declared.Grouping.{Grouping}
 use Rattle.section_5_groups.specs.Groups.{grouping_at, is_differenced, is_grouping}
 use Rattle.section_5.specs.declared.Template.{Template}
-use Rattle.section_5.specs.declared.Template.TheVariants as Template
 use Rattle.section_5.specs.declared.TemplateReading.TheVariants as TemplateReading
 use Rattle.section_5.specs.declared.Represented.TheVariants as Represented
 use Rattle.section_5.specs.Representation.{representation_with, is_scaled, complex_at, data_template_at, represented_by, representation_at}

@@ -6,12 +6,9 @@ use Rattle.std.specs.Float.Ieee.Scale.{finite}
 use Rattle.section.specs.Sections.{octet, held, held_signed, length_at}
 use Rattle.section_5_groups.specs.Groups.{grouping_at, is_differenced, is_grouping}
 use Rattle.section_5.specs.declared.Template.{Template}
-use Rattle.section_5.specs.declared.Template.TheVariants as Template
 use Rattle.section_5.specs.declared.TemplateReading.{TemplateReading}
-use Rattle.section_5.specs.declared.TemplateReading.TheVariants as TemplateReading
 use Rattle.section_5.specs.declared.Representation.{Representation}
 use Rattle.section_5.specs.declared.Represented.{Represented}
-use Rattle.section_5.specs.declared.Represented.TheVariants as Represented
 
 -- R, in octets 12-15, is finite; E, in 16-17, is from -127 to 127, and D, in 18-19, from -22 to 22; a number has 0 to 31 bits (octet 20), and
 -- the values were doubles before (octet 21 is zero).

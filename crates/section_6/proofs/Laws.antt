@@ -15,11 +15,9 @@ use Rattle.bits.specs.Bits.{octets_of}
 use Rattle.bits_ones.specs.Ones.{ones_before}
 use Rattle.bits_ones.proofs.Laws.{ones_most}
 use Rattle.tiling_sections.specs.declared.Bitmap.{Bitmap}
-use Rattle.tiling_sections.specs.declared.Bitmap.TheVariants as Bitmap
 use Rattle.section_6.specs.declared.Presence as declared
 use Rattle.section_6.specs.declared.Presence.TheVariants as Presence
 use Rattle.section_6.specs.declared.Marked.{Marked}
-use Rattle.section_6.specs.declared.Marked.TheVariants as Marked
 use Rattle.section_6.specs.Presence.{bitmap_length, bitmap_in, is_bitmap, own_at, earlier_at, all_of, without_bitmap, presence_at, present_before}
 
 -- The section 6 at p has a bitmap for so many points, of which n are present.

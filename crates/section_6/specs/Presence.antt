@@ -5,11 +5,9 @@ use Rattle.section.specs.Sections.{Lies, octet, length_at}
 use Rattle.bits.specs.Bits.{bit_at, octets_of}
 use Rattle.bits_ones.specs.Ones.{ones_before}
 use Rattle.tiling_sections.specs.declared.Bitmap.{Bitmap}
-use Rattle.tiling_sections.specs.declared.Bitmap.TheVariants as Bitmap
 use Rattle.section_6.specs.declared.Presence as declared
 use Rattle.section_6.specs.declared.Presence.TheVariants as Presence
 use Rattle.section_6.specs.declared.Marked.{Marked}
-use Rattle.section_6.specs.declared.Marked.TheVariants as Marked
 
 -- A bitmap has a bit for each point, from octet 7 of its section on. So the section's length is 6 octets and those of the bits.
 abbrev pub bitmap_length : ℕ → ℕ

@@ -16,15 +16,12 @@ use Rattle.section_5_groups.specs.declared.Grouping.{Grouping}
 use Rattle.section_5.specs.declared.Representation.{Representation}
 use Rattle.section_5.specs.declared.Represented.TheVariants as Represented
 use Rattle.section_5.specs.declared.Template.{Template}
-use Rattle.section_5.specs.declared.Template.TheVariants as Template
 use Rattle.section_5.specs.Representation.{representation_at}
 use Rattle.section_5.proofs.Laws.{represented_bits, represented_groups}
 use Rattle.section_7_layout.specs.declared.Layout.{Layout}
 use Rattle.section_7_layout.specs.Runs.{layout_of, packed_from, width_of, length_of}
 use Rattle.section_7.specs.declared.Plan.{Plan}
-use Rattle.section_7.specs.declared.Plan.TheVariants as Plan
 use Rattle.section_7.specs.declared.Data.{Data}
-use Rattle.section_7.specs.declared.Data.TheVariants as Data
 use Rattle.section_7.specs.declared.Packed.TheVariants as Packed
 use Rattle.section_7.specs.Packing.{simple_length, values_before, bits_before, are_sound, plan_of, ends_with, is_grouped, groups_in, grouped_at, data_at, LimitedBy}
 

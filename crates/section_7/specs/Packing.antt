@@ -4,16 +4,13 @@ use Rattle.section.specs.Sections.{length_at, octets_in}
 use Rattle.bits.specs.Bits.{octets_of}
 use Rattle.section_5_groups.specs.declared.Grouping.{Grouping}
 use Rattle.section_5.specs.declared.Template.{Template}
-use Rattle.section_5.specs.declared.Template.TheVariants as Template
 use Rattle.section_5.specs.declared.Representation.{Representation}
 use Rattle.section_7_layout.specs.declared.Layout.{Layout}
 use Rattle.section_7_layout.specs.Runs.{differencing_at, layout_of, width_of, length_of, Limited}
 use Rattle.section_7.specs.declared.Plan.{Plan}
-use Rattle.section_7.specs.declared.Plan.TheVariants as Plan
 use Rattle.section_7.specs.declared.Groups.{Groups}
 use Rattle.section_7.specs.declared.Data.TheVariants as Data
 use Rattle.section_7.specs.declared.Packed.{Packed}
-use Rattle.section_7.specs.declared.Packed.TheVariants as Packed
 
 -- Simple packing: N numbers of so many bits each, behind the section's five octets.
 abbrev pub simple_length : ℕ → ℕ → ℕ

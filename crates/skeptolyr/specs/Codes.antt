@@ -6,24 +6,17 @@ use Rattle.laws_rows.specs.Rows.{laid}
 use Rattle.refusals.specs.declared.Refusal.{Refusal}
 use Rattle.refusals.specs.Refusals.{code_of}
 use Rattle.tiling.specs.declared.Checked.{Checked}
-use Rattle.tiling.specs.declared.Checked.TheVariants as Checked
 use Rattle.section_3_positions.specs.Quotients.{position_of}
 use Rattle.section_3_lambert.specs.Sheet.{sheet_of}
 use Rattle.question.specs.declared.Described.{Described}
-use Rattle.question.specs.declared.Described.TheVariants as Described
 use Rattle.question.specs.Judge.{Asks, judge}
 use Rattle.question_place.specs.declared.OnDegrees.{OnDegrees}
-use Rattle.question_place.specs.declared.OnDegrees.TheVariants as OnDegrees
 use Rattle.question_place.specs.declared.OnLambert.{OnLambert}
-use Rattle.question_place.specs.declared.OnLambert.TheVariants as OnLambert
 use Rattle.question_place.specs.Place.{on_degrees, on_lambert}
 use Rattle.question_point.specs.declared.Pointed.{Pointed}
-use Rattle.question_point.specs.declared.Pointed.TheVariants as Pointed
 use Rattle.question_picture.specs.declared.Pictured.{Pictured}
-use Rattle.question_picture.specs.declared.Pictured.TheVariants as Pictured
 use Rattle.question_numbers.specs.Numbers.{position_numbers, sheet_numbers, numbers_of}
 use Rattle.question_decode.specs.declared.Decoded.{Decoded}
-use Rattle.question_decode.specs.declared.Decoded.TheVariants as Decoded
 
 abbrev pub check_code : Checked → ℕ
 check_code (Checked.Counts messages fields) = messages * 2 ^ 32 + fields

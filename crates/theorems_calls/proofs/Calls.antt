@@ -27,25 +27,20 @@ use Rattle.question_decode.specs.declared.Decoded.TheVariants as Decoded
 use Rattle.question_decode.proofs.Laws.{Small as DecodedSmall, decode_small}
 use Rattle.question.specs.Judge.{Asks, description_length, judge}
 use Rattle.section_3_geometry.specs.declared.Grid.{Grid}
-use Rattle.section_3_geometry.specs.declared.Grid.TheVariants as Grid
 use Rattle.section_3_geometry.specs.Geometry.{points_of}
 use Rattle.section_3_positions.specs.Quotients.{position_of}
 use Rattle.section_3_positions.proofs.Laws.{position_lies}
 use Rattle.question.proofs.Laws.{judge_placed, judged_numbers}
 use Rattle.question_place.specs.declared.OnDegrees.{OnDegrees}
-use Rattle.question_place.specs.declared.OnDegrees.TheVariants as OnDegrees
 use Rattle.question_place.specs.declared.OnLambert.{OnLambert}
-use Rattle.question_place.specs.declared.OnLambert.TheVariants as OnLambert
 use Rattle.question_place.specs.Place.{on_degrees, on_lambert}
 use Rattle.question_place.proofs.Laws.{judged_degrees, judged_lambert, degrees_placed, lambert_placed}
 use Rattle.question_decode.specs.Decoding.{present_of}
 use Rattle.question_decode.proofs.Laws.{one_or_zero}
 use Rattle.question_point.specs.declared.Pointed.{Pointed}
-use Rattle.question_point.specs.declared.Pointed.TheVariants as Pointed
 use Rattle.question_point.specs.Point as Single
 use Rattle.question_point.proofs.Laws.{Answerable, point_answerable, Told, answered_point}
 use Rattle.question_picture.specs.declared.Pictured.{Pictured}
-use Rattle.question_picture.specs.declared.Pictured.TheVariants as Pictured
 use Rattle.question_picture.specs.Picture as Picture
 use Rattle.question_picture.proofs.Laws.{Modest, picture_modest}
 use Rattle.question_numbers.specs.Numbers.{numbers_of}

@@ -23,7 +23,6 @@ use Rattle.laws_rows.specs.Rows.{row}
 use Rattle.text.specs.Text.{spelt}
 use Rattle.question.specs.declared.Description.{Description}
 use Rattle.question.specs.declared.Described.{Described}
-use Rattle.question.specs.declared.Described.TheVariants as Described
 use Rattle.question.specs.Describe.{described_at, describe}
 use Rattle.section_3_geometry.specs.Geometry.{frame_of}
 use Rattle.question_decode.specs.Decoding.{answer}

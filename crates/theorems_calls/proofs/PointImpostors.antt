@@ -24,7 +24,6 @@ use Rattle.section_7.specs.Packing.{values_before, bits_before, are_sound, data_
 use Rattle.values_integers.specs.Integers.{group_among, stored_at, integer, are_in_range}
 use Rattle.section_3_geometry.specs.Geometry.{points_of}
 use Rattle.question.specs.declared.Described.{Described}
-use Rattle.question.specs.declared.Described.TheVariants as Described
 use Rattle.question.specs.Describe.{described_at, describe}
 use Rattle.question_decode.specs.Decoding.{answer}
 use Rattle.question_point.specs.declared.Pointed.TheVariants as Pointed

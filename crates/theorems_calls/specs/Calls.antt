@@ -8,7 +8,6 @@ use Rattle.section_3_geometry.specs.declared.Position.{Position}
 use Rattle.section_3_geometry.specs.declared.DegreeGrid.{DegreeGrid}
 use Rattle.section_3_geometry.specs.declared.LambertGrid.{LambertGrid}
 use Rattle.section_3_geometry.specs.declared.Grid.{Grid}
-use Rattle.section_3_geometry.specs.declared.Grid.TheVariants as Grid
 use Rattle.section_3_geometry.specs.Geometry.{frame_of, points_of}
 use Rattle.section_3_positions.specs.Positions.{LiesAt}
 use Rattle.section_3_lambert.specs.Sheet.{sheet_of}

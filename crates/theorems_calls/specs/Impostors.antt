@@ -6,9 +6,7 @@ use Rattle.section_3_geometry.specs.declared.LambertGrid.{LambertGrid}
 use Rattle.section_3_geometry.specs.Geometry.{column_of, row_of, south_of, span_east, span_south}
 use Rattle.section_3_positions.specs.Positions.{longitude_at, latitude_at}
 use Rattle.question_place.specs.declared.OnDegrees.{OnDegrees}
-use Rattle.question_place.specs.declared.OnDegrees.TheVariants as OnDegrees
 use Rattle.question_place.specs.declared.OnLambert.{OnLambert}
-use Rattle.question_place.specs.declared.OnLambert.TheVariants as OnLambert
 use Rattle.question_place.specs.Place.{on_degrees, on_lambert}
 use Rattle.question_numbers.specs.Numbers.{position_numbers, sheet_numbers}
 use Rattle.skeptolyr.specs.Codes.{Answer, numbers, refused, numbers_code, numbers_left, described_for, placed_for, sheet_for}

@@ -22,7 +22,6 @@ use Rattle.question_place.proofs.Laws.{point_taken}
 use Rattle.question_decode.specs.Decoding.{present_of, rank_of}
 use Rattle.question_decode.proofs.Laws.{one_or_zero}
 use Rattle.question_point.specs.declared.Pointed.{Pointed}
-use Rattle.question_point.specs.declared.Pointed.TheVariants as Pointed
 use Rattle.question_point.specs.Point.{point_length, pointed_at, point_if, pointed_by, point}
 use Rattle.question_point.proofs.Laws.{told_missing, told_value_lem, told_out}
 use Rattle.theorems_demands.specs.Alone.{Present, UpToOwn, Alone, Agrees, both_present, both_missing}

@@ -22,7 +22,6 @@ use Rattle.tiling_sections.specs.declared.Step.TheVariants as Step
 use Rattle.tiling_sections.specs.Walk.{nowhere}
 use Rattle.tiling_sections.specs.Stands as Stands
 use Rattle.tiling.specs.declared.Checked.{Checked}
-use Rattle.tiling.specs.declared.Checked.TheVariants as Checked
 use Rattle.tiling.specs.declared.Header.TheVariants as Header
 use Rattle.tiling.specs.Heads as Heads
 use Rattle.tiling.specs.Tiling as Tiling
@@ -35,7 +34,6 @@ use Rattle.section_1.specs.declared.Identification.{Identification}
 use Rattle.section_1.specs.declared.Identified.TheVariants as Identified
 use Rattle.section_1.specs.Identification.{identification_at}
 use Rattle.section_3_geometry.specs.declared.Grid.{Grid}
-use Rattle.section_3_geometry.specs.declared.Grid.TheVariants as Grid
 use Rattle.section_3_geometry.specs.Geometry.{frame_of, points_of, template_of}
 use Rattle.section_3.specs.declared.Gridded.TheVariants as Gridded
 use Rattle.section_3.specs.Section3.{grid_at}
@@ -55,7 +53,6 @@ use Rattle.values_integers.specs.Integers.{integer_at, are_in_range}
 use Rattle.values_integers.proofs.Range.{in_range_out, out_of_range}
 use Rattle.question.specs.declared.Description.{Description}
 use Rattle.question.specs.declared.Described.{Described}
-use Rattle.question.specs.declared.Described.TheVariants as Described
 use Rattle.question.specs.Describe as Describe
 use Rattle.question.specs.Describe.{refused_at, packed, marked, represented, defined, gridded, described_at, field_in}
 use Rattle.question.specs.Judge.{Asks, integer_of, is_decodable, has_room, values_asked, description_length, numbers_asked, asked_of, judge}
@@ -63,11 +60,8 @@ use Rattle.question.specs.Judged.{Judged}
 use Rattle.question.proofs.Laws.{described, described_judged, room_fits}
 use Rattle.question.proofs.Chain.{at-section-1, at-section-3, at-section-4, at-section-5, at-section-6, at-section-7}
 use Rattle.question_place.specs.declared.Asked.{Asked}
-use Rattle.question_place.specs.declared.Asked.TheVariants as Asked
 use Rattle.question_place.specs.declared.OnDegrees.{OnDegrees}
-use Rattle.question_place.specs.declared.OnDegrees.TheVariants as OnDegrees
 use Rattle.question_place.specs.declared.OnLambert.{OnLambert}
-use Rattle.question_place.specs.declared.OnLambert.TheVariants as OnLambert
 use Rattle.question_place.specs.Place.{point_asked, placed_by, sheet_by, on_degrees, on_lambert}
 use Rattle.question_place.proofs.Laws.{kind_asked, point_of, in_degrees_as, on_lambert_as, degrees_alike, lambert_alike}
 use Rattle.question_decode.specs.Decoding.{Outcome, gives, refuses, outcome_by, outcome, answer_of, values_after, presence_after}

@@ -32,16 +32,13 @@ use Rattle.values_points.specs.Points.{point_value}
 use Rattle.values_integers.proofs.Range.{in_range_one}
 use Rattle.question.specs.declared.Description.{Description}
 use Rattle.question.specs.declared.Described.{Described}
-use Rattle.question.specs.declared.Described.TheVariants as Described
 use Rattle.question.specs.Describe.{describe}
 use Rattle.question.specs.Judge.{Asks, Known, integer_of, is_decodable, has_room, asked_of, judge}
 use Rattle.question.proofs.Laws.{judged_described, judged_values, described_grid, room_fits}
 use Rattle.question_place.specs.declared.Placed.TheVariants as Placed
 use Rattle.question_place.specs.declared.OnSheet.TheVariants as OnSheet
 use Rattle.question_place.specs.declared.OnDegrees.{OnDegrees}
-use Rattle.question_place.specs.declared.OnDegrees.TheVariants as OnDegrees
 use Rattle.question_place.specs.declared.OnLambert.{OnLambert}
-use Rattle.question_place.specs.declared.OnLambert.TheVariants as OnLambert
 use Rattle.question_place.specs.Place.{place_length, on_degrees, on_lambert, placed_by, place, sheet_by, sheet}
 use Rattle.question_place.proofs.Laws.{Placeable, judged_degrees, degrees_judged, judged_lambert, lambert_judged, degrees_passes}
 use Rattle.question_decode.specs.declared.Decoded.TheVariants as Decoded

@@ -13,29 +13,23 @@ use Rattle.octets.specs.Places.{at, place_of}
 use Rattle.octets.proofs.Cases.{apart, split, both}
 use Rattle.calendar.specs.declared.Time.{Time}
 use Rattle.calendar.specs.declared.Reading.{Reading}
-use Rattle.calendar.specs.declared.Reading.TheVariants as Reading
 use Rattle.calendar.specs.declared.Order.{Order}
-use Rattle.calendar.specs.declared.Order.TheVariants as Order
 use Rattle.calendar.specs.Calendar.{time_at, ordered}
 use Rattle.section.specs.Sections.{octet, held, length_at}
 use Rattle.tiling_sections.specs.declared.Located.{Located}
 use Rattle.tiling_sections.specs.declared.Bitmap.{Bitmap}
-use Rattle.tiling_sections.specs.declared.Bitmap.TheVariants as Bitmap
 use Rattle.section_3_geometry.specs.declared.LambertGrid.{LambertGrid}
 use Rattle.section_3_geometry.specs.declared.Grid as declaredGrid
 use Rattle.section_3_geometry.specs.declared.Grid.TheVariants as Grid
 use Rattle.section_3_geometry.specs.Geometry.{template_of}
 use Rattle.section_3.proofs.Laws.{grid_template}
 use Rattle.section_4.specs.declared.Kind.{Kind}
-use Rattle.section_4.specs.declared.Kind.TheVariants as Kind
 use Rattle.section_4.specs.declared.Level as declaredLevel
 use Rattle.section_4.specs.declared.LevelReading.TheVariants as LevelReading
 use Rattle.section_4.specs.declared.Moment.{Moment}
-use Rattle.section_4.specs.declared.Moment.TheVariants as Moment
 use Rattle.section_4.specs.declared.Product as declaredProduct
 use Rattle.section_4.specs.declared.Product.TheVariants as Product
 use Rattle.section_4.specs.declared.ProductReading.{ProductReading}
-use Rattle.section_4.specs.declared.ProductReading.TheVariants as ProductReading
 use Rattle.section_4.specs.declared.ProductDefinition.{ProductDefinition}
 use Rattle.section_4.specs.declared.Defined.TheVariants as Defined
 use Rattle.section_4.specs.Product.{product_template_at, is_template, is_product, level_at, later, agreed, ending, interval_of, product_at, product_definition_at}
@@ -43,7 +37,6 @@ use Rattle.section_4.proofs.Laws.{defined_tells, level_read}
 use Rattle.section_5.specs.declared.Template as declaredTemplate
 use Rattle.section_5.specs.declared.Template.TheVariants as Template
 use Rattle.section_5.specs.declared.TemplateReading.{TemplateReading}
-use Rattle.section_5.specs.declared.TemplateReading.TheVariants as TemplateReading
 use Rattle.section_5.specs.declared.Representation.{Representation}
 use Rattle.section_5.specs.declared.Represented.TheVariants as Represented
 use Rattle.section_5_groups.specs.Groups.{grouping_at, is_differenced, is_grouping}
@@ -51,7 +44,6 @@ use Rattle.section_5.specs.Representation.{is_scaled, data_template_at, represen
 use Rattle.section_6.specs.declared.Presence as declaredPresence
 use Rattle.section_6.specs.declared.Presence.TheVariants as Presence
 use Rattle.section_6.specs.declared.Marked.{Marked}
-use Rattle.section_6.specs.declared.Marked.TheVariants as Marked
 use Rattle.section_6.specs.Presence.{is_bitmap, own_at, earlier_at, all_of, presence_at, indicator_of}
 use Rattle.question.specs.declared.Description.{Description}
 use Rattle.question_numbers.specs.Numbers.{level_numbers, kind_number, product_numbers, lambert_numbers, shared_numbers, numbers_of}

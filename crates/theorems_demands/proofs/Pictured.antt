@@ -16,7 +16,6 @@ use Rattle.section_3_geometry.specs.Geometry.{frame_of, points_of}
 use Rattle.values_integers.proofs.Range.{in_range_one}
 use Rattle.question.specs.declared.Description.{Description}
 use Rattle.question.specs.declared.Described.{Described}
-use Rattle.question.specs.declared.Described.TheVariants as Described
 use Rattle.question.specs.Describe.{describe}
 use Rattle.question.specs.Judge.{Known, integer_of, is_decodable}
 use Rattle.question_decode.specs.Decoding.{present_of, rank_of}

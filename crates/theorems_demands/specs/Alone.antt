@@ -8,7 +8,6 @@ use Rattle.question.specs.declared.Description.{Description}
 use Rattle.question.specs.Judge.{integer_of}
 use Rattle.question_decode.specs.Decoding.{present_of, rank_of}
 use Rattle.question_point.specs.declared.Pointed.{Pointed}
-use Rattle.question_point.specs.declared.Pointed.TheVariants as Pointed
 
 -- A point that is present: as many points are present before it as integers are packed before its own, which is the standard's X, in its range; and the
 -- double that is told is that of R, E, D and X.

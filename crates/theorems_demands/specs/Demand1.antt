@@ -14,7 +14,6 @@ use Rattle.section_1.specs.declared.Identified.TheVariants as Identified
 use Rattle.section_3_geometry.specs.declared.DegreeGrid.{DegreeGrid}
 use Rattle.section_3_geometry.specs.declared.LambertGrid.{LambertGrid}
 use Rattle.section_3_geometry.specs.declared.Grid.{Grid}
-use Rattle.section_3_geometry.specs.declared.Grid.TheVariants as Grid
 use Rattle.section_3_geometry.specs.Geometry.{frame_of, points_of, template_of}
 use Rattle.section_3.specs.declared.Gridded.TheVariants as Gridded
 use Rattle.section_4.specs.declared.Defined.TheVariants as Defined

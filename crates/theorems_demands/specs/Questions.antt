@@ -4,29 +4,20 @@ use Rattle.std.specs.Prelude.{ℕ, List}
 use Rattle.refusals.specs.declared.Refusal.{Refusal}
 use Rattle.refusals.specs.Refusals.{number_of}
 use Rattle.tiling.specs.declared.Checked.{Checked}
-use Rattle.tiling.specs.declared.Checked.TheVariants as Checked
 use Rattle.tiling.specs.Tiling as Tiling
 use Rattle.question.specs.declared.Described.{Described}
-use Rattle.question.specs.declared.Described.TheVariants as Described
 use Rattle.question.specs.Describe as Describe
 use Rattle.question.specs.Judge.{Asks, judge}
 use Rattle.question_place.specs.declared.Placed.{Placed}
-use Rattle.question_place.specs.declared.Placed.TheVariants as Placed
 use Rattle.question_place.specs.declared.OnSheet.{OnSheet}
-use Rattle.question_place.specs.declared.OnSheet.TheVariants as OnSheet
 use Rattle.question_place.specs.declared.OnDegrees.{OnDegrees}
-use Rattle.question_place.specs.declared.OnDegrees.TheVariants as OnDegrees
 use Rattle.question_place.specs.declared.OnLambert.{OnLambert}
-use Rattle.question_place.specs.declared.OnLambert.TheVariants as OnLambert
 use Rattle.question_place.specs.Place as Place
 use Rattle.question_decode.specs.declared.Decoded.{Decoded}
-use Rattle.question_decode.specs.declared.Decoded.TheVariants as Decoded
 use Rattle.question_decode.specs.Decoding.{answer}
 use Rattle.question_point.specs.declared.Pointed.{Pointed}
-use Rattle.question_point.specs.declared.Pointed.TheVariants as Pointed
 use Rattle.question_point.specs.Point as Point
 use Rattle.question_picture.specs.declared.Pictured.{Pictured}
-use Rattle.question_picture.specs.declared.Pictured.TheVariants as Pictured
 use Rattle.question_picture.specs.Picture as Picture
 
 -- Check the file; describe field k; place point n of field k, in degrees or on the sheet; decode field k from a start index on, into runs of these two lengths; tell

@@ -10,7 +10,6 @@ use lib.ListN.{length}
 use Rattle.octets.specs.Places.{at}
 use Rattle.laws_machine.specs.Machine.{stop, Trace, halts, steps}
 use Rattle.tiling_sections.specs.declared.Bitmap.{Bitmap}
-use Rattle.tiling_sections.specs.declared.Bitmap.TheVariants as Bitmap
 use Rattle.tiling_sections.specs.declared.Starts.{Starts}
 use Rattle.tiling_sections.specs.declared.Located.{Located}
 use Rattle.tiling_sections.specs.declared.Step.TheVariants as Step
@@ -19,7 +18,6 @@ use Rattle.tiling_sections.specs.Stands as Stands
 use Rattle.tiling_sections.proofs.Laws.{stands_only, trace_walk}
 use Rattle.tiling.specs.declared.Header.TheVariants as Header
 use Rattle.tiling.specs.Tiling.{stated_at, message, SoFar, InFile, tiled, met, file_step, tiling_of}
-use Rattle.tiling.specs.Heads as Heads
 use Rattle.tiling.specs.Heads.{Heads, Holds}
 use Rattle.tiling.proofs.Laws as reading
 use Rattle.tiling.proofs.Laws.{enters_only, past, step_end, step_met, whole_only}

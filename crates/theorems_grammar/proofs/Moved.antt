@@ -13,7 +13,6 @@ use Rattle.octets.proofs.Cases.{split}
 use Rattle.octets.specs.Places.{at}
 use Rattle.section.specs.Sections.{length_at}
 use Rattle.tiling_sections.specs.declared.Bitmap.{Bitmap}
-use Rattle.tiling_sections.specs.declared.Bitmap.TheVariants as Bitmap
 use Rattle.tiling_sections.specs.declared.Located.{Located}
 use Rattle.tiling.specs.Tiling.{stated_at}
 use Rattle.theorems_grammar.specs.Grammar as Grammar

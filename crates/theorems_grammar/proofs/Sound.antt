@@ -11,7 +11,6 @@ use lib.ListN.{length}
 use Rattle.octets.proofs.Cases.{split}
 use Rattle.laws_machine.specs.Machine.{go, stop, Trace, halts, steps}
 use Rattle.tiling_sections.specs.declared.Bitmap.{Bitmap}
-use Rattle.tiling_sections.specs.declared.Bitmap.TheVariants as Bitmap
 use Rattle.tiling_sections.specs.declared.Located.{Located}
 use Rattle.tiling_sections.specs.Walk.{follows, starts_after, bitmap_after, Walking, passed, finished_by, took, entering, sections}
 use Rattle.tiling_sections.specs.Stands as Stands

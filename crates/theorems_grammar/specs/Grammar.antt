@@ -4,7 +4,6 @@ use Rattle.std.specs.Prelude.{ℕ, ◌+◌, ◌≤◌, ◌≡◌, List, [], ◌�
 use Rattle.octets.specs.Places.{at}
 use Rattle.section.specs.Sections.{length_at, kind_at}
 use Rattle.tiling_sections.specs.declared.Bitmap.{Bitmap}
-use Rattle.tiling_sections.specs.declared.Bitmap.TheVariants as Bitmap
 use Rattle.tiling_sections.specs.declared.Located.{Located}
 use Rattle.tiling_sections.specs.Walk.{bitmap_behind}
 use Rattle.tiling.specs.Tiling.{largest, grib, sevens, opening_at, edition_at, stated_at}

@@ -6,30 +6,21 @@ use Rattle.octets.specs.Places.{at}
 use Rattle.calendar.specs.declared.Time.{Time}
 use Rattle.calendar.specs.Calendar.{date}
 use Rattle.tiling_sections.specs.declared.Bitmap.{Bitmap}
-use Rattle.tiling_sections.specs.declared.Bitmap.TheVariants as Bitmap
 use Rattle.section_1.specs.declared.Identified.{Identified}
-use Rattle.section_1.specs.declared.Identified.TheVariants as Identified
 use Rattle.section_1.specs.Identification.{identification_at}
 use Rattle.section_3.specs.declared.Gridded.{Gridded}
-use Rattle.section_3.specs.declared.Gridded.TheVariants as Gridded
 use Rattle.section_3.specs.Section3.{grid_at}
 use Rattle.section_4.specs.declared.Defined.{Defined}
-use Rattle.section_4.specs.declared.Defined.TheVariants as Defined
 use Rattle.section_4.specs.declared.Moment.{Moment}
-use Rattle.section_4.specs.declared.Moment.TheVariants as Moment
 use Rattle.section_4.specs.Product.{later, product_definition_at}
 use Rattle.section_5.specs.declared.Represented.{Represented}
-use Rattle.section_5.specs.declared.Represented.TheVariants as Represented
 use Rattle.section_5.specs.Representation.{representation_at}
 use Rattle.section_5_groups.specs.declared.Grouping.{Grouping}
 use Rattle.section_5.specs.declared.Template.{Template}
-use Rattle.section_5.specs.declared.Template.TheVariants as Template
 use Rattle.section_5.specs.declared.Representation.{Representation}
 use Rattle.section_6.specs.declared.Marked.{Marked}
-use Rattle.section_6.specs.declared.Marked.TheVariants as Marked
 use Rattle.section_6.specs.Presence.{presence_at}
 use Rattle.section_7.specs.declared.Packed.{Packed}
-use Rattle.section_7.specs.declared.Packed.TheVariants as Packed
 use Rattle.section_7.specs.Packing.{data_at}
 use Rattle.theorems_limits.specs.Samples.{holding, start, in_file, sample1, sample3, sphere3, lambert3, lambert_sphere3, instant4, interval4, simple5, complex5, bitmap6, complex7}
 

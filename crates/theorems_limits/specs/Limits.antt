@@ -14,7 +14,6 @@ use Rattle.section_1.specs.declared.Identified.TheVariants as Identified
 use Rattle.section_1.specs.Identification.{identification_at}
 use Rattle.section_3_geometry.specs.declared.LambertGrid.{LambertGrid}
 use Rattle.section_3_geometry.specs.declared.Grid.{Grid}
-use Rattle.section_3_geometry.specs.declared.Grid.TheVariants as Grid
 use Rattle.section_3_geometry.specs.Geometry.{south_of, template_of}
 use Rattle.section_3_positions.specs.Positions.{longitude_at, latitude_at}
 use Rattle.section_3_lambert.specs.declared.SheetPlace.{SheetPlace}
@@ -22,19 +21,15 @@ use Rattle.section_3_lambert.specs.Sheet.{sheet_of}
 use Rattle.section_3.specs.declared.Gridded.TheVariants as Gridded
 use Rattle.section_3.specs.Section3.{grid_at}
 use Rattle.section_4.specs.declared.Level.{Level}
-use Rattle.section_4.specs.declared.Level.TheVariants as Level
 use Rattle.section_4.specs.declared.Kind.TheVariants as Kind
 use Rattle.section_4.specs.declared.Product as Declared
 use Rattle.section_4.specs.declared.Product.TheVariants as Product
 use Rattle.section_4.specs.declared.Defined.{Defined}
-use Rattle.section_4.specs.declared.Defined.TheVariants as Defined
 use Rattle.section_4.specs.declared.Moment.TheVariants as Moment
 use Rattle.section_4.specs.Product.{is_product, later, ending, interval_of, defined_at, product_definition_at}
 use Rattle.section_5_groups.specs.declared.Grouping.{Grouping}
 use Rattle.section_5.specs.declared.Template.{Template}
-use Rattle.section_5.specs.declared.Template.TheVariants as Template
 use Rattle.section_5.specs.declared.Represented.{Represented}
-use Rattle.section_5.specs.declared.Represented.TheVariants as Represented
 use Rattle.section_5.specs.Representation.{representation_at, template_number}
 use Rattle.section_6.specs.declared.Presence.TheVariants as Presence
 use Rattle.section_6.specs.declared.Marked.TheVariants as Marked
@@ -44,7 +39,6 @@ use Rattle.section_7_layout.specs.declared.Differencing.{Differencing}
 use Rattle.section_7_layout.specs.Runs.{width_of, length_of}
 use Rattle.section_7.specs.declared.Data.TheVariants as Data
 use Rattle.section_7.specs.declared.Packed.{Packed}
-use Rattle.section_7.specs.declared.Packed.TheVariants as Packed
 use Rattle.section_7.specs.Packing.{data_at}
 use Rattle.theorems_limits.specs.Samples.{holding, start, in_file, sample1, sample3, sphere3, lambert3, lambert_sphere3, instant4, interval4, simple5, complex5, bitmap6, complex7}
 use Rattle.theorems_limits.specs.Judged.{◌takes◌refuses◌, clock, above, below, minus2, minus4, octets1, dated, octets3, octets_sphere, octets_lambert, octets_lambert_sphere, sheeted, heaped, latitudes, longitudes, from_east, from_north, reference, octets4, octets_interval, octets_levelless, in_last_hour, octets_simple, octets_complex, grouped5, octets_bitmap, octets_unmapped, the_bitmap, values_by, grouping7, taken7}

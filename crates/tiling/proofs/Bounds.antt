@@ -14,7 +14,6 @@ use Rattle.tiling_sections.specs.Walk.{passed, nowhere}
 use Rattle.tiling_sections.specs.Laid.{Laid}
 use Rattle.tiling_sections.proofs.Laid.{Every, none, join, at_each}
 use Rattle.tiling.specs.declared.Checked.{Checked}
-use Rattle.tiling.specs.declared.Checked.TheVariants as Checked
 use Rattle.tiling.specs.Tiling.{largest, SoFar, InFile, tiled, refused, file_step, tiling_of, found_in, find, checked, check}
 use Rattle.tiling.specs.Lying.{Lying}
 use Rattle.tiling.proofs.Laws.{Bounded, message_bounded, MessageLaid, message_laid, Reads, on, end, reads, Whole, read, whole, check_placed}

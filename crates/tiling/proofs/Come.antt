@@ -17,13 +17,10 @@ use Rattle.refusals.specs.declared.Why.{Why}
 use Rattle.refusals.specs.Refusals.{refusal}
 use Rattle.tiling_sections.specs.declared.Located.{Located}
 use Rattle.tiling_sections.specs.declared.Walked.{Walked}
-use Rattle.tiling_sections.specs.declared.Walked.TheVariants as Walked
 use Rattle.tiling_sections.specs.Walk.{InMessage, passed, failed, nowhere, sections, told}
 use Rattle.tiling.specs.declared.Header.TheVariants as Header
 use Rattle.tiling.specs.declared.Found.{Found}
-use Rattle.tiling.specs.declared.Found.TheVariants as Found
 use Rattle.tiling.specs.declared.Checked.{Checked}
-use Rattle.tiling.specs.declared.Checked.TheVariants as Checked
 use Rattle.tiling.specs.Tiling.{header_at, message, InFile, tiled, refused, read_from, tiles, tiling_of, found_in, find, checked, check}
 use Rattle.tiling.proofs.Laws.{Bounded, message_bad, message_walked, message_bounded, read_on, read_bad, read_end}
 

@@ -24,7 +24,6 @@ use Rattle.tiling_sections.specs.Laid.{Laid}
 use Rattle.tiling_sections.proofs.Laws.{Within, fields_within}
 use Rattle.tiling_sections.proofs.Laid.{Every, FieldsLaid, sections_laid}
 use Rattle.tiling.specs.declared.Header.{Header}
-use Rattle.tiling.specs.declared.Header.TheVariants as Header
 use Rattle.tiling.specs.declared.Checked.TheVariants as Checked
 use Rattle.tiling.specs.Tiling.{largest, grib, sevens, opening_at, edition_at, stated_at, closing_at, header_at, entered, message, SoFar, InFile, tiled, refused, met, file_step, read_from, tiling_of, checked, check}
 use Rattle.tiling.specs.Heads.{Opens, Holds, Heads, few, strange, short, long, endless, headed}

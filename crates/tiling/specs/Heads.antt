@@ -4,7 +4,6 @@ use Rattle.std.specs.Prelude.{ℕ, ◌+◌, ◌-◌, ◌≤◌, ◌<◌, ◌≡�
 use Rattle.octets.specs.Places.{at}
 use Rattle.refusals.specs.declared.Why.TheVariants as Why
 use Rattle.tiling.specs.declared.Header.{Header}
-use Rattle.tiling.specs.declared.Header.TheVariants as Header
 use Rattle.tiling.specs.Tiling.{grib, sevens, opening_at, edition_at, stated_at, closing_at}
 
 -- Step a is passed at p: section 0's 16 octets are there. Then step b: they say "GRIB" and edition 2.

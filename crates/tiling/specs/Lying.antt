@@ -3,7 +3,6 @@
 use Rattle.std.specs.Prelude.{ℕ, ◌≤◌, ◌<◌, List, length}
 use Rattle.tiling_sections.specs.Laid.{Laid}
 use Rattle.tiling.specs.declared.Found.{Found}
-use Rattle.tiling.specs.declared.Found.TheVariants as Found
 use Rattle.tiling.specs.Tiling.{largest}
 
 abbrev pub Lying : List ℕ → ℕ → Found → Type 0

@@ -9,11 +9,8 @@ use Rattle.laws_machine.specs.Machine.{Next, go, stop, run}
 use Rattle.tiling_sections.specs.declared.Located.{Located}
 use Rattle.tiling_sections.specs.Walk.{InMessage, passed, failed, nowhere, sections}
 use Rattle.tiling.specs.declared.Header.{Header}
-use Rattle.tiling.specs.declared.Header.TheVariants as Header
 use Rattle.tiling.specs.declared.Checked.{Checked}
-use Rattle.tiling.specs.declared.Checked.TheVariants as Checked
 use Rattle.tiling.specs.declared.Found.{Found}
-use Rattle.tiling.specs.declared.Found.TheVariants as Found
 
 -- The largest file that is taken.
 abbrev pub largest : ℕ

@@ -15,7 +15,6 @@ use Rattle.section.specs.Sections.{length_at, kind_at, Lies}
 use Rattle.laws_machine.specs.Machine.{go, stop}
 use Rattle.laws_machine.proofs.Laws.{run_gives}
 use Rattle.tiling_sections.specs.declared.Bitmap.{Bitmap}
-use Rattle.tiling_sections.specs.declared.Bitmap.TheVariants as Bitmap
 use Rattle.tiling_sections.specs.declared.Starts.{Starts}
 use Rattle.tiling_sections.specs.declared.Located.{Located}
 use Rattle.tiling_sections.specs.Walk.{section_start, starts_by, starts_after, bitmap_after, nowhere, Walking, InMessage, passed, failed, finished_by, section_step, entering, sections}

@@ -19,7 +19,6 @@ use Rattle.laws_machine.specs.Machine.{Next, go, stop, Trace}
 use Rattle.laws_machine.proofs.Laws.{run_go, run_stop, run_gives, run_trace, trace_run}
 use Rattle.tiling_sections.specs.declared.Located.{Located}
 use Rattle.tiling_sections.specs.declared.Step.{Step}
-use Rattle.tiling_sections.specs.declared.Step.TheVariants as Step
 use Rattle.tiling_sections.specs.Walk.{follows, section_at, Walking, InMessage, passed, failed, finished_by, took, stepped, section_step, walk_from, entering, sections}
 use Rattle.tiling_sections.specs.Stands.{Fits, Stands, ends, unfinished, misfit, strange, next}
 

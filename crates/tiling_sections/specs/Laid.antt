@@ -4,7 +4,6 @@ use Rattle.std.specs.Prelude.{ℕ, ◌+◌, ◌≤◌, ◌≡◌, List, length}
 use Rattle.octets.specs.declared.FilePlace.{FilePlace}
 use Rattle.section.specs.Sections.{Lies}
 use Rattle.tiling_sections.specs.declared.Bitmap.{Bitmap}
-use Rattle.tiling_sections.specs.declared.Bitmap.TheVariants as Bitmap
 use Rattle.tiling_sections.specs.declared.Located.{Located}
 
 -- Where a bitmap is in force, the section that has it lies in the file.

@@ -5,7 +5,6 @@ use Rattle.octets.specs.Places.{at}
 use Rattle.section.specs.Sections.{length_at, kind_at}
 use Rattle.refusals.specs.declared.Why.TheVariants as Why
 use Rattle.tiling_sections.specs.declared.Step.{Step}
-use Rattle.tiling_sections.specs.declared.Step.TheVariants as Step
 use Rattle.tiling_sections.specs.Walk.{follows}
 
 -- A section stands at p: there is room for its length, which is 5 or more, before e.

@@ -8,13 +8,10 @@ use Rattle.refusals.specs.declared.Why.TheVariants as Why
 use Rattle.refusals.specs.Refusals.{refusal}
 use Rattle.laws_machine.specs.Machine.{Next, go, stop, run}
 use Rattle.tiling_sections.specs.declared.Bitmap.{Bitmap}
-use Rattle.tiling_sections.specs.declared.Bitmap.TheVariants as Bitmap
 use Rattle.tiling_sections.specs.declared.Starts.{Starts}
 use Rattle.tiling_sections.specs.declared.Located.{Located}
 use Rattle.tiling_sections.specs.declared.Step.{Step}
-use Rattle.tiling_sections.specs.declared.Step.TheVariants as Step
 use Rattle.tiling_sections.specs.declared.Walked.{Walked}
-use Rattle.tiling_sections.specs.declared.Walked.TheVariants as Walked
 
 -- Which number may follow which: 0 first, then 1, then 3 and 4 to 7 in turn; behind 7 the next field or the next grid begins.
 abbrev pub follows : ℕ → ℕ → Bool

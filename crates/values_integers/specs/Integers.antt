@@ -8,7 +8,6 @@ use Rattle.bits.specs.Bits.{bits_at}
 use Rattle.doubles.specs.Doubles.{is_in_range}
 use Rattle.section_5_groups.specs.declared.Grouping.{Grouping}
 use Rattle.section_5.specs.declared.Template.{Template}
-use Rattle.section_5.specs.declared.Template.TheVariants as Template
 use Rattle.section_5.specs.declared.Representation.{Representation}
 use Rattle.section_7_layout.specs.declared.Differencing.{Differencing}
 use Rattle.section_7_layout.specs.declared.Layout.{Layout}

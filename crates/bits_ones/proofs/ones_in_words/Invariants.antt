@@ -1,7 +1,6 @@
 -- `bits_ones::ones_in_words` meets its contract. The invariant: `ones` is how many bits are set between word `from` and word `i`.
 use mathlib.Core.Path.{◌≡◌}
 use Prim.Native.Nat.{◌+◌, ◌-◌, ◌*◌, ◌≤◌}
-use lib.Count.{ones}
 use Rattle.bits_ones.specs.Ones.{ones_before}
 use Rattle.bits_ones.proofs.ones_in_words.Given as goal
 

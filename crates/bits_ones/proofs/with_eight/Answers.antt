@@ -1,8 +1,7 @@
 -- `bits_ones::with_eight` meets its contract: the words are added two at a time, then the carries, which count twice, and then the carries of these,
 -- which count four times. The ones of the last carry count eight times, and no bit is lost on the way.
-use Prim.Native.Nat.{◌≤◌}
 use native.Mathlib.Omega.{arith}
-use lib.Count.{ones, ones-le}
+use lib.Count.{ones-le}
 use Rattle.bits_ones.proofs.Adding.{tallied}
 use Rattle.bits_ones.proofs.with_eight.Goals as goal
 

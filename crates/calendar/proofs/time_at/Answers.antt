@@ -2,7 +2,6 @@
 use mathlib.Core.Path.{◌≡◌, sym, ◌∙◌}
 use Prim.Native.Nat.{◌+◌}
 use native.Mathlib.Omega.{arith}
-use borrow.Author.Tests.{not-true, not-false}
 use Rattle.calendar.specs.Calendar.{octets_time, is_date}
 use Rattle.calendar.proofs.Tests.{date_in_range, read_time, read_no_date, read_no_time}
 use Rattle.calendar.proofs.time_at.Goals.{After-is_date}

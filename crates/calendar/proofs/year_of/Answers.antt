@@ -1,7 +1,6 @@
 -- `calendar::year_of` meets its contract. The invariant: the year begins no later than the day. It holds at first, since no year has more than 366 days.
 use Prim.Native.Nat.{◌+◌, ◌/◌}
 use native.Mathlib.Omega.{arith}
-use Rattle.calendar.specs.Count.{days_before_year}
 use Rattle.calendar.proofs.Years.{days_before_year_lem, years_at_most}
 use Rattle.calendar.proofs.year_of.Goals as goal
 

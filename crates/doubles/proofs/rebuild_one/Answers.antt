@@ -1,11 +1,10 @@
 -- `doubles::rebuild_one` meets its contract: each test is one part of `is_rebuildable`, and behind them the packing record rebuilds X.
 use mathlib.Core.Path.{◌≡◌, sym, ap, ◌∙◌, subst}
 use mathlib.Core.Bool.{Bool, true}
-use mathlib.Core.Logic.{⊎_elim}
 use lib.Dec.{T}
 use lib.Ieee.{binary32, of_bits}
 use lib.Ieee.Scale.{finite}
-use borrow.Author.Tests.{le-leb, lt-leb, not-true, not-false}
+use borrow.Author.Tests.{le-leb, lt-leb}
 use Rattle.octets.specs.Numbers.{whole, whole_of}
 use Rattle.doubles.specs.declared.Packing.{Packing}
 use Rattle.doubles.specs.declared.Rebuilt.TheVariants.{Double}

@@ -1,14 +1,12 @@
 -- `listing_file::put_line` meets its contract: a field's number, the answer about it and the end of the line are put one behind the other.
 use mathlib.Core.Path.{◌≡◌, sym, ◌∙◌}
-use mathlib.Core.List.{List, ◌++◌}
-use Prim.Native.Nat.{ℕ}
 use native.Mathlib.Omega.{arith}
 use Rattle.question.specs.declared.Described.TheVariants as Described
 use Rattle.question.specs.Describe.{describe}
 use Rattle.text.specs.Text.{ascii, decimal}
 use Rattle.text.proofs.Laws.{decimal_short}
 use Rattle.listing_file.specs.Listing.{answer_text, line_of}
-use Rattle.text.proofs.Pieces.{Told, told_none, told-then, told_room, told_length}
+use Rattle.text.proofs.Pieces.{told_none, told-then, told_room, told_length}
 use Rattle.listing_file.proofs.Laws.{answer_short}
 use Rattle.listing_file.proofs.put_line.Goals as goal
 

@@ -1,10 +1,8 @@
 -- `listing_file::put_refused` meets its contract: the refusal is put, and the end of the line behind it.
-use mathlib.Core.List.{List, ◌++◌}
-use Prim.Native.Nat.{ℕ}
 use native.Mathlib.Omega.{arith}
 use Rattle.text.specs.Text.{ascii}
 use Rattle.listing_lines.specs.Lines.{refusal_text}
-use Rattle.text.proofs.Pieces.{Told, told_none, told-then, told_room}
+use Rattle.text.proofs.Pieces.{told_none, told-then, told_room}
 use Rattle.listing_lines.proofs.Laws.{refusal_short}
 use Rattle.listing_file.proofs.put_refused.Goals as goal
 

@@ -1,7 +1,5 @@
 -- `listing_lines::put_field` meets its contract: its nine pieces are put one behind the other, and there is room for each of them.
 use mathlib.Core.Path.{ap, ◌∙◌}
-use mathlib.Core.List.{List, ◌++◌}
-use Prim.Native.Nat.{ℕ}
 use native.Mathlib.Omega.{arith}
 use lib.ListN.{length}
 use mir.Facts.{Fits-widen}
@@ -10,7 +8,7 @@ use Rattle.section_3_geometry.specs.Geometry.{frame_of}
 use Rattle.text.specs.Text.{ascii, decimal}
 use Rattle.text.proofs.Laws.{decimal_short}
 use Rattle.listing_lines.specs.Lines.{subject_text, size_text, listed_time}
-use Rattle.text.proofs.Pieces.{Told, told_none, told-then, told_room, told_length}
+use Rattle.text.proofs.Pieces.{told_none, told-then, told_room, told_length}
 use Rattle.listing_lines.proofs.Laws.{subject_short, size_short}
 use Rattle.listing_lines.proofs.put_field.Goals as goal
 

@@ -1,11 +1,9 @@
 -- `listing_lines::put_refusal` meets its contract: its four pieces are put one behind the other, and there is room for each of them.
-use mathlib.Core.List.{List, ◌++◌}
-use Prim.Native.Nat.{ℕ}
 use native.Mathlib.Omega.{arith}
 use Rattle.refusals.specs.Refusals.{number_of}
 use Rattle.text.specs.Text.{ascii, decimal}
 use Rattle.text.proofs.Laws.{decimal_short}
-use Rattle.text.proofs.Pieces.{Told, told_none, told-then, told_room}
+use Rattle.text.proofs.Pieces.{told_none, told-then, told_room}
 use Rattle.listing_lines.proofs.put_refusal.Goals as goal
 
 pub put_decimal-word-requires : goal.put_decimal-word-requires

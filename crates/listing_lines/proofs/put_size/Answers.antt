@@ -1,10 +1,8 @@
 -- `listing_lines::put_size` meets its contract: its three pieces are put one behind the other, and there is room for each of them.
-use mathlib.Core.List.{List, ◌++◌}
-use Prim.Native.Nat.{ℕ}
 use native.Mathlib.Omega.{arith}
 use Rattle.text.specs.Text.{ascii, decimal}
 use Rattle.text.proofs.Laws.{decimal_short}
-use Rattle.text.proofs.Pieces.{Told, told_none, told-then, told_room}
+use Rattle.text.proofs.Pieces.{told_none, told-then, told_room}
 use Rattle.listing_lines.proofs.put_size.Goals as goal
 
 pub put-rows-requires : goal.put-rows-requires

@@ -1,11 +1,9 @@
 -- `listing_lines::put_subject` meets its contract: its five pieces are put one behind the other, and there is room for each of them.
-use mathlib.Core.List.{List, ◌++◌}
-use Prim.Native.Nat.{ℕ}
 use native.Mathlib.Omega.{arith}
 use mir.Facts.{Fits-widen}
 use Rattle.text.specs.Text.{ascii, decimal}
 use Rattle.text.proofs.Laws.{decimal_short}
-use Rattle.text.proofs.Pieces.{Told, told_none, told-then, told_room, told_length}
+use Rattle.text.proofs.Pieces.{told_none, told-then, told_room, told_length}
 use Rattle.listing_lines.proofs.put_subject.Goals as goal
 
 pub put-category-requires : goal.put-category-requires

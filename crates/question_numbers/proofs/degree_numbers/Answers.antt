@@ -1,12 +1,7 @@
 -- `question_numbers::degree_numbers` meets its contract: in each arm the kind of the grid is known, and latitudes keep their sign.
-use mathlib.Core.List.{◌∷◌, []}
-use mathlib.Core.Path.{sym, ap, subst, ◌∙◌}
+use mathlib.Core.Path.{subst}
 use native.Mathlib.Omega.{arith}
-use mir.Facts.{to_z_pos, to_z-of_z}
-use lib.IntN.{pos}
-use mir.Syntax.{w64}
 use Rattle.question_numbers.specs.Held.{DegreesHeld, LambertHeld, LatitudesHeld}
-use Rattle.question_numbers.specs.Numbers.{degree_numbers}
 use Rattle.question_numbers.proofs.degree_numbers.Goals.{In-Degrees, In-Lambert}
 use Rattle.question_numbers.proofs.degree_numbers.Goals as goal
 

@@ -1,11 +1,6 @@
 -- `question_numbers::level_numbers` meets its contract: each case of a level has its numbers.
-use mathlib.Core.Path.{sym, ap, ◌∙◌}
-use mathlib.Core.List.{◌∷◌, []}
+use mathlib.Core.Path.{ap}
 use native.Mathlib.Omega.{arith}
-use lib.IntN.{pos}
-use mir.Syntax.{w64}
-use mir.Facts.{to_z_pos, to_z-of_z}
-use Rattle.question_numbers.specs.Numbers.{level_numbers}
 use Rattle.question_numbers.specs.Held.{factor_size}
 use Rattle.question_numbers.proofs.level_numbers.Goals as goal
 

@@ -5,9 +5,9 @@ use mathlib.Core.Bool.{Bool}
 use lib.IntN.{ℤ, pos, ◌-ℤ◌}
 use mir.Syntax.{w64}
 use mir.Val.{SFits}
-use mir.Facts.{to_z_pos, to_z-of_z}
+use mir.Facts.{to_z_pos}
 use Rattle.octets.specs.Numbers.{whole_of}
-use Rattle.question_numbers.proofs.Signs.{below_zero, below_fits}
+use Rattle.question_numbers.proofs.Signs.{below_fits}
 use Rattle.question_numbers.proofs.signed.Goals as goal
 
 pub overflow_sub-result : goal.overflow_sub-result

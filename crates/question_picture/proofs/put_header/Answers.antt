@@ -1,10 +1,9 @@
 -- `question_picture::put_header` meets its contract: its five pieces are put one behind the other, and there is room for each of them.
-use mathlib.Core.List.{List, ◌++◌}
 use Prim.Native.Nat.{ℕ, ◌+◌}
 use native.Mathlib.Omega.{arith}
 use lib.ListN.{length}
 use Rattle.text.specs.Text.{ascii, decimal}
-use Rattle.text.proofs.Pieces.{Told, told_none, told-then, told_room}
+use Rattle.text.proofs.Pieces.{told_none, told-then, told_room}
 use Rattle.question_picture.proofs.Laws.{header_long}
 use Rattle.question_picture.proofs.put_header.Goals as goal
 

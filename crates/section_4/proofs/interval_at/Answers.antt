@@ -8,7 +8,6 @@ use Rattle.calendar.specs.declared.Reading.TheVariants as Reading
 use Rattle.calendar.specs.Calendar.{Gregorian, time_at, ordered}
 use Rattle.calendar.proofs.Laws.{read_is_gregorian}
 use Rattle.section_4.specs.declared.Kind.{Kind}
-use Rattle.section_4.specs.declared.Kind.TheVariants as Kind
 use Rattle.section_4.specs.declared.Moment.TheVariants as Moment
 use Rattle.section_4.specs.Product.{agreed, interval_of}
 use Rattle.section_4.proofs.Tests.{end_moment, mean_interval, sum_interval, interval_ends, no_end, never_ends}

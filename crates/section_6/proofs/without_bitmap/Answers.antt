@@ -1,7 +1,7 @@
 -- `section_6::without_bitmap` meets its contract: in each arm the indicator is known, or known to be neither 254 nor 255, and so are the tests
 -- of that arm.
 use mathlib.Core.Path.{◌≡◌, sym, ◌∙◌}
-use borrow.Author.Tests.{eq-eqb, ne_eqb, not-true, not-false}
+use borrow.Author.Tests.{eq-eqb, ne_eqb}
 use Rattle.section.specs.Sections.{octet}
 use Rattle.section_6.proofs.without_bitmap.Goals.{After-octet}
 use Rattle.section_6.proofs.without_bitmap.Goals as goal
