@@ -6,11 +6,12 @@ ghost use Rattle.std.specs.Prelude.{◌≡◌, length};
 
 use calendar::{Later, Order, Reading, Unit};
 use doubles::Rebuilt;
-use libc::{STDIN_FILENO, STDOUT_FILENO};
 use octets::{BitPlace, FilePlace};
+use std::io;
+use std::io::Read;
 
 // Question 1: rebuild one double. R in octets 2-5, E in 6-7, D in 8-9, X in 10-17.
-fn rebuild(question: &[u8])
+fn rebuild(rt: &impl Print, question: &[u8]) -> io::Result<()>
     requires { length question.now ≡ 32 }
 {
     let r = octets::number_at(question, FilePlace(1), 4) as u32;
@@ -19,29 +20,26 @@ fn rebuild(question: &[u8])
     let x = octets::sign_and_size(octets::number_at(question, FilePlace(9), 8), 8);
     match doubles::rebuild_one(r, e, d, x) {
         Rebuilt::Double(value) => {
-            io::write_all(STDOUT_FILENO, b"double ");
-            io::print_hex(STDOUT_FILENO, f64::to_bits(value), 16);
+            let pattern = f64::to_bits(value);
+            print!(rt; "double {pattern:016x}")
         }
         Rebuilt::Refused(refusal) => {
-            let why = refusal.why;
-            io::write_all(STDOUT_FILENO, b"refused ");
-            io::print_decimal(STDOUT_FILENO, refusals::number_of(why));
-            io::write_all(STDOUT_FILENO, b" at ");
-            io::print_decimal(STDOUT_FILENO, refusal.place.0 as u64);
+            let number = refusals::number_of(refusal.why);
+            let place = refusal.place.0;
+            print!(rt; "refused {number} at {place}")
         }
     }
 }
 
 // Question 2: a number of bits. The bit place in octet 2, how many bits in octet 3, the run in octets 9-32.
-fn read_bits(question: &[u8])
+fn read_bits(rt: &impl Print, question: &[u8]) -> io::Result<()>
     requires { length question.now ≡ 32 }
 {
     let at = BitPlace(question[1] as usize);
     let b = question[2] as u32 % 33;
     let run = &question[8..];
-    io::write_all(STDOUT_FILENO, b"bits ");
-    let taken = bits_reader::take(run, at, b);
-    io::print_decimal(STDOUT_FILENO, taken.number as u64);
+    let number = bits_reader::take(run, at, b).number;
+    print!(rt; "bits {number}")
 }
 
 fn unit_of(n: u8) -> Unit {
@@ -53,7 +51,7 @@ fn unit_of(n: u8) -> Unit {
 }
 
 // Question 3: a time, and another so much later. The time in octets 2-8, the unit in octet 9, how many of it in octets 10-13.
-fn later(question: &[u8])
+fn later(rt: &impl Print, question: &[u8]) -> io::Result<()>
     requires { length question.now ≡ 32 }
 {
     match calendar::time_at(question, FilePlace(1)) {
@@ -61,66 +59,62 @@ fn later(question: &[u8])
             let count = octets::number_at(question, FilePlace(9), 4) as u32;
             match calendar::plus(time, count, unit_of(question[8])) {
                 Later::At(end) => {
-                    io::write_all(STDOUT_FILENO, b"time ");
-                    io::write_all(STDOUT_FILENO, &calendar::digits(end));
+                    print!(rt; "time ")?;
+                    rt.write_all(&calendar::digits(end))
                 }
-                Later::Passes2399 => {
-                    io::write_all(STDOUT_FILENO, b"passes 2399");
-                }
+                Later::Passes2399 => print!(rt; "passes 2399"),
             }
         }
-        Reading::NoTime => {
-            io::write_all(STDOUT_FILENO, b"no time");
-        }
+        Reading::NoTime => print!(rt; "no time"),
     }
 }
 
 // Question 4: which of two times is first. They stand in octets 2-8 and 10-16.
-fn order(question: &[u8])
+fn order(rt: &impl Print, question: &[u8]) -> io::Result<()>
     requires { length question.now ≡ 32 }
 {
     let Reading::At(first) = calendar::time_at(question, FilePlace(1)) else {
-        io::write_all(STDOUT_FILENO, b"no time");
-        return;
+        return print!(rt; "no time");
     };
     let Reading::At(second) = calendar::time_at(question, FilePlace(9)) else {
-        io::write_all(STDOUT_FILENO, b"no time");
-        return;
+        return print!(rt; "no time");
     };
     match calendar::compare(first, second) {
-        Order::Before => io::write_all(STDOUT_FILENO, b"before"),
-        Order::Same => io::write_all(STDOUT_FILENO, b"same"),
-        Order::After => io::write_all(STDOUT_FILENO, b"after"),
-    };
+        Order::Before => print!(rt; "before"),
+        Order::Same => print!(rt; "same"),
+        Order::After => print!(rt; "after"),
+    }
 }
 
-fn answer(question: &[u8])
+fn answer(rt: &impl Print, question: &[u8]) -> io::Result<()>
     requires { length question.now ≡ 32 }
 {
     match question[0] {
-        1 => rebuild(question),
-        2 => read_bits(question),
-        3 => later(question),
-        4 => order(question),
-        _ => {
-            io::write_all(STDOUT_FILENO, b"no question");
-        }
+        1 => rebuild(rt, question)?,
+        2 => read_bits(rt, question)?,
+        3 => later(rt, question)?,
+        4 => order(rt, question)?,
+        _ => print!(rt; "no question")?,
     }
-    io::write_all(STDOUT_FILENO, b"\n");
+    println!(rt)
 }
 
 // Answers the whole questions of the input, one after the other. What is left of a question at its end is passed over.
-fn answer_all(input: &[u8]) {
+fn answer_all(rt: &impl Print, input: &[u8]) -> io::Result<()> {
     let mut at: usize = 0;
     while 32 <= input.len() - at {
         let end = at + 32;
-        answer(&input[at..end]);
+        answer(rt, &input[at..end])?;
         at = end;
     }
+    Ok(())
 }
 
-fn main() {
-    let mut buffer = io::large_buffer();
-    let got = io::read_full(STDIN_FILENO, &mut buffer);
-    answer_all(&buffer[..got]);
+// At most so many octets of the input are read.
+const MOST_OCTETS: u64 = 65536;
+
+fn main(rt: HostRuntime) -> io::Result<()> {
+    let mut input = Vec::new(rt.alloc());
+    rt.stdin().take(MOST_OCTETS).read_to_end(&mut input)?;
+    answer_all(&rt, &input)
 }

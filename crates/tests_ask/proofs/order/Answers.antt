@@ -4,7 +4,7 @@ use Rattle.calendar.proofs.Laws.{read_is_gregorian}
 use Rattle.tests_ask.proofs.order.Goals as goal
 
 pub compare-requires : goal.compare-requires
-compare-requires c = (
+compare-requires g c = (
   read_is_gregorian _ _ _ (sym c.time_at.ensures ∙ c.in-At.is),
   read_is_gregorian _ _ _ (sym c.time_at-2.ensures ∙ c.in-At-time_at.is),
 )
