@@ -1,15 +1,45 @@
 // Prints the listing of the file on standard input (RULES, "Listing"). What is printed of what was read is decided, and proved, in listing_file.
 #![tactic(auto)]
 
-use libc::STDIN_FILENO;
+ghost use Rattle.std.specs.Prelude.{◌≤◌, length};
 
-fn main() {
-    let mut input = [0u8; 65537];
-    let got = io::read_full(STDIN_FILENO, &mut input);
+use std::io::Read;
+
+// Reads until the run is full, the input ends or a read fails, and answers how many octets it has put at the start of the run.
+fn read_full<R: Read>(input: &mut R, run: &mut [u8]) -> usize
+    ensures { result ≤ length run.new }
+{
+    let mut got: usize = 0;
+    while got < run.len() {
+        let more = input.read(&mut run[got..]).unwrap_or(0);
+        if more == 0 {
+            break;
+        }
+        got += more;
+    }
+    got
+}
+
+// Reads once more where reading has stopped: how many octets there still are, at most 1, or -1 where the input cannot be read.
+fn read_again<R: Read>(input: &mut R) -> isize {
     let mut rest = [0u8; 1];
-    let again = libc::read(STDIN_FILENO, &mut rest);
+    match input.read(&mut rest) {
+        Ok(count) => count as isize,
+        Err(_) => -1,
+    }
+}
+
+fn main(rt: HostRuntime) {
+    let mut stdin = rt.stdin();
+    let mut input = [0u8; 65537];
+    let got = read_full(&mut stdin, &mut input);
+    let again = read_again(&mut stdin);
     let mut text = [0u8; 655360];
     let printout = listing_file::print(&mut text, &input, got, again);
-    let length = printout.length;
-    io::write_all(printout.descriptor, &text[..length]);
+    let told = &text[..printout.length];
+    // The exit status is 0 in every case, so a write that fails is passed over.
+    let _ = match printout.descriptor {
+        2 => rt.stderr().write_all(told),
+        _ => rt.stdout().write_all(told),
+    };
 }
