@@ -1,27 +1,30 @@
 // Prints the listing of the file on standard input (RULES, "Listing"). What is printed of what was read is decided, and proved, in listing_file.
 #![tactic(auto)]
 
-ghost use Rattle.std.specs.Prelude.{◌≤◌, length};
+ghost use Rattle.std.specs.Prelude.{◌≡◌, ◌≤◌, length, take, pos};
+ghost use Rattle.std.specs.Io.KnownBytes.{Consumes, IsAtEnd};
 
 use std::io::Read;
 
 // Reads until the run is full, the input ends or a read fails, and answers how many octets it has put at the start of the run.
 fn read_full<R: Read>(input: &mut R, run: &mut [u8]) -> usize
-    ensures { result ≤ length run.new }
+    ensures in_bounds { result ≤ length run.new }
+    ensures taken { Consumes (R.remaining input.old) (R.remaining input.new) (take result run.new) }
 {
     let mut got: usize = 0;
     while got < run.len() {
-        let more = input.read(&mut run[got..]).unwrap_or(0);
-        if more == 0 {
-            break;
+        match input.read(&mut run[got..]) {
+            Ok(0) | Err(_) => break,
+            Ok(more) => got += more,
         }
-        got += more;
     }
     got
 }
 
 // Reads once more where reading has stopped: how many octets there still are, at most 1, or -1 where the input cannot be read.
-fn read_again<R: Read>(input: &mut R) -> isize {
+fn read_again<R: Read>(input: &mut R) -> isize
+    ensures { result ≡ pos 0 → IsAtEnd (R.remaining input.new) }
+{
     let mut rest = [0u8; 1];
     match input.read(&mut rest) {
         Ok(count) => count as isize,
