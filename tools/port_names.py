@@ -13,7 +13,7 @@ import sys
 
 WORD = r"[^\s(){}.;,@\"«»\[\]\\`]+"
 TOKEN = re.compile(r"--[^\n]*|\"(?:[^\"\\\n]|\\.)*\"|«[^»]*»|" + WORD)
-DECLARED = re.compile(r"^(\s*)(?:(?:abbrev|unfoldable|pub) )*(" + WORD + r") +:(?=\s)")
+DECLARED = re.compile(r"^(\s*)(?:(?:abbrev|unfoldable|pub) )*(" + WORD + r") +:(?=\s|$)")
 # Words that the old library had, in the names of lemmas on them.
 LIBRARY = {"getD": "get_or"}
 # A field that would have the name of the function that it speaks of.
@@ -29,7 +29,8 @@ def snake(name):
     for old, new in LIBRARY.items():
         name = re.sub(rf"(?<![A-Za-z]){old}(?![a-z])", new, name)
     if re.match(r"[a-z]", name):
-        name = re.sub(r"(?<=[a-z0-9])([A-Z])", lambda it: "_" + it[1].lower(), name)
+        while re.search(r"[a-z0-9][A-Z]", name):
+            name = re.sub(r"(?<=[a-z0-9])([A-Z])", lambda it: "_" + it[1].lower(), name)
         return name.replace("-", "_")
     return name
 
@@ -51,7 +52,7 @@ def declared(text):
         found = DECLARED.match(line)
         if not found or found[2] in ("λ", "let", "in", "where"):
             continue
-        if re.search(r"\btie\.(Need-|invariant-|decreases-)", line):
+        if re.search(r"\b(tie\.(Need-|invariant-|decreases-)|goal\.)", line):
             needs.add(found[2])
             continue
         names.add(found[2])

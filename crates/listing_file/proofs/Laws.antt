@@ -98,7 +98,7 @@ module _ {run : List ℕ} {got : ℕ} {a b : List ℕ} {r : ℕ} where
   prints_unreadable {again = pos n} below put = absurd (omega (arith, ltb-true n 0 below))
   prints_unreadable {again = negsuc n} below put = record { puts = λ whole read. put; prints_to = refl }
 
-  pub prints-listing :
+  pub prints_listing :
       {again : ℤ} → most_octets < length run → lt_z again (pos 0) ≡ false → Puts a 0 (listing_of (take got run)) b r → Prints run got again a b (record { descriptor = pos 1; length = r })
-  prints-listing {again = pos n} enough read-to put = record { puts = λ whole read. rw (sym (read_listed whole run got enough read)) put; prints_to = refl }
-  prints-listing {again = negsuc n} enough read-to put = apart cc
+  prints_listing {again = pos n} enough read-to put = record { puts = λ whole read. rw (sym (read_listed whole run got enough read)) put; prints_to = refl }
+  prints_listing {again = negsuc n} enough read-to put = apart cc

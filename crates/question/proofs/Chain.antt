@@ -28,56 +28,56 @@ use Rattle.question.specs.declared.Described.{Described}
 use Rattle.question.specs.Describe.{discipline_at, refused_at, packed, marked, represented, defined, gridded, identified, described_at}
 
 module _ (file : List ℕ) (l : Located) (P : Described → Type 0) where
-  pub at-section-1 :
+  pub at_section_1 :
       (identification_at file l.starts.one.0 ≡ Identified.NotTaken → P (refused_at Why.BadIdentification l.starts.one.0)) →
       ((i : Identification) → identification_at file l.starts.one.0 ≡ Identified.As i → P (gridded file l i (grid_at file l.starts.three.0))) →
       P (described_at file l)
   unfolding described_at
-  at-section-1 refused taken = by _ refl
+  at_section_1 refused taken = by _ refl
     where
       by : (a : Identified) → identification_at file l.starts.one.0 ≡ a → P (identified file l a)
       by (Identified.As i) e = taken i e
       by Identified.NotTaken e = refused e
 
   module _ (i : Identification) where
-    pub at-section-3 :
+    pub at_section_3 :
         (grid_at file l.starts.three.0 ≡ Gridded.NotTaken → P (refused_at Why.BadGrid l.starts.three.0)) →
         ((g : Grid) → grid_at file l.starts.three.0 ≡ Gridded.On g → P (defined file l i g (product_definition_at file l.starts.four.0 i.reference))) →
         P (gridded file l i (grid_at file l.starts.three.0))
-    at-section-3 refused taken = by _ refl
+    at_section_3 refused taken = by _ refl
       where
         by : (a : Gridded) → grid_at file l.starts.three.0 ≡ a → P (gridded file l i a)
         by (Gridded.On g) e = taken g e
         by Gridded.NotTaken e = refused e
 
     module _ (g : Grid) where
-      pub at-section-4 :
+      pub at_section_4 :
           (product_definition_at file l.starts.four.0 i.reference ≡ Defined.NotTaken → P (refused_at Why.BadProduct l.starts.four.0)) →
           ((m : ProductDefinition) → product_definition_at file l.starts.four.0 i.reference ≡ Defined.As m → P (represented file l i g m (representation_at file l.starts.five.0))) →
           P (defined file l i g (product_definition_at file l.starts.four.0 i.reference))
-      at-section-4 refused taken = by _ refl
+      at_section_4 refused taken = by _ refl
         where
           by : (a : Defined) → product_definition_at file l.starts.four.0 i.reference ≡ a → P (defined file l i g a)
           by (Defined.As m) e = taken m e
           by Defined.NotTaken e = refused e
 
       module _ (m : ProductDefinition) where
-        pub at-section-5 :
+        pub at_section_5 :
             (representation_at file l.starts.five.0 ≡ Represented.NotTaken → P (refused_at Why.BadRepresentation l.starts.five.0)) →
             ((r : Representation) → representation_at file l.starts.five.0 ≡ Represented.By r → P (marked file l i g m r (presence_at file l.starts.six.0 l.bitmap (points_of g) r.n))) →
             P (represented file l i g m (representation_at file l.starts.five.0))
-        at-section-5 refused taken = by _ refl
+        at_section_5 refused taken = by _ refl
           where
             by : (a : Represented) → representation_at file l.starts.five.0 ≡ a → P (represented file l i g m a)
             by (Represented.By r) e = taken r e
             by Represented.NotTaken e = refused e
 
         module _ (r : Representation) where
-          pub at-section-6 :
+          pub at_section_6 :
               (presence_at file l.starts.six.0 l.bitmap (points_of g) r.n ≡ Marked.NotTaken → P (refused_at Why.BadBitmap l.starts.six.0)) →
               ((p : Presence) → presence_at file l.starts.six.0 l.bitmap (points_of g) r.n ≡ Marked.As p → P (packed file l i g m r p (data_at file l.starts.seven.0 r))) →
               P (marked file l i g m r (presence_at file l.starts.six.0 l.bitmap (points_of g) r.n))
-          at-section-6 refused taken = by _ refl
+          at_section_6 refused taken = by _ refl
             where
               by : (a : Marked) → presence_at file l.starts.six.0 l.bitmap (points_of g) r.n ≡ a → P (marked file l i g m r a)
               by (Marked.As p) e = taken p e
@@ -88,11 +88,11 @@ module _ (file : List ℕ) (l : Located) (P : Described → Type 0) where
             abbrev pub whole : Data → Description
             whole plan = record { discipline = discipline_at file l; identification = i; grid = g; definition = m; representation = r; presence = p; plan = plan; starts = l.starts }
 
-            pub at-section-7 :
+            pub at_section_7 :
                 (data_at file l.starts.seven.0 r ≡ Packed.NotTaken → P (refused_at Why.BadPacking l.starts.seven.0)) →
                 ((x : Data) → data_at file l.starts.seven.0 r ≡ Packed.As x → P (Described.As (whole x))) →
                 P (packed file l i g m r p (data_at file l.starts.seven.0 r))
-            at-section-7 refused taken = by _ refl
+            at_section_7 refused taken = by _ refl
               where
                 by : (a : Packed) → data_at file l.starts.seven.0 r ≡ a → P (packed file l i g m r p a)
                 by (Packed.As x) e = taken x e

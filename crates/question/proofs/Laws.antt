@@ -25,7 +25,7 @@ use Rattle.question.specs.declared.Described.{Described}
 use Rattle.question.specs.Judged.{Judged}
 use Rattle.question.specs.Describe.{discipline_at, refused_at, described_at, field_in, describe}
 use Rattle.question.specs.Judge.{Asks, has_room, is_decodable, description_length, asked_of, judge}
-use Rattle.question.proofs.Chain.{at-section-1, at-section-3, at-section-4, at-section-5, at-section-6, at-section-7}
+use Rattle.question.proofs.Chain.{at_section_1, at_section_3, at_section_4, at_section_5, at_section_6, at_section_7}
 
 -- A refusal is no description, and a description is one alone.
 pub no_description : {A : Type 0} {r : Refusal} {d : Description} → Described.Refused r ≡ Described.As d → A
@@ -40,14 +40,14 @@ module _ (file : List ℕ) (l : Located) where
 
   pub described_judged : (d : Description) → described_at file l ≡ Described.As d → Judged file l d
   described_judged d =
-      at-section-1 file l (JudgedAs d) (λ _. no_description)
-      (λ i of_one. at-section-3 file l (JudgedAs d) i (λ _. no_description)
-      (λ g of_three. at-section-4 file l (JudgedAs d) i g (λ _. no_description)
-      (λ m of_four. at-section-5 file l (JudgedAs d) i g m (λ _. no_description)
-      (λ r of-five. at-section-6 file l (JudgedAs d) i g m r (λ _. no_description)
-      (λ p of-six. at-section-7 file l (JudgedAs d) i g m r p (λ _. no_description)
-      (λ x of-seven same. subst (Judged file l) (one_description same)
-      (record { of_discipline = refl; of_one = of_one; of_three = of_three; of_four = of_four; of_five = of-five; of_six = of-six; of_seven = of-seven; of_starts = refl })))))))
+      at_section_1 file l (JudgedAs d) (λ _. no_description)
+      (λ i of_one. at_section_3 file l (JudgedAs d) i (λ _. no_description)
+      (λ g of_three. at_section_4 file l (JudgedAs d) i g (λ _. no_description)
+      (λ m of_four. at_section_5 file l (JudgedAs d) i g m (λ _. no_description)
+      (λ r of_five. at_section_6 file l (JudgedAs d) i g m r (λ _. no_description)
+      (λ p of_six. at_section_7 file l (JudgedAs d) i g m r p (λ _. no_description)
+      (λ x of_seven same. subst (Judged file l) (one_description same)
+      (record { of_discipline = refl; of_one = of_one; of_three = of_three; of_four = of_four; of_five = of_five; of_six = of_six; of_seven = of_seven; of_starts = refl })))))))
 
 -- A field whose sections are all taken is described so.
 pub judged_described : (file : List ℕ) (l : Located) {d : Description} → Judged file l d → described_at file l ≡ Described.As d
@@ -120,12 +120,12 @@ Placed (Described.Refused r) = r.place.0 ≤ largest
 -- The refusals of a field's sections stand where the sections start, and these lie in the file.
 described_placed : (file : List ℕ) (l : Located) → length file ≤ largest → Laid file l → Placed (described_at file l)
 described_placed file l few laid =
-    at-section-1 file l Placed (λ _. within laid.one)
-    (λ i _. at-section-3 file l Placed i (λ _. within laid.three)
-    (λ g _. at-section-4 file l Placed i g (λ _. within laid.four)
-    (λ m _. at-section-5 file l Placed i g m (λ _. within laid.five)
-    (λ r _. at-section-6 file l Placed i g m r (λ _. within laid.six)
-    (λ p _. at-section-7 file l Placed i g m r p (λ _. within laid.seven) (λ _ _. tt))))))
+    at_section_1 file l Placed (λ _. within laid.one)
+    (λ i _. at_section_3 file l Placed i (λ _. within laid.three)
+    (λ g _. at_section_4 file l Placed i g (λ _. within laid.four)
+    (λ m _. at_section_5 file l Placed i g m (λ _. within laid.five)
+    (λ r _. at_section_6 file l Placed i g m r (λ _. within laid.six)
+    (λ p _. at_section_7 file l Placed i g m r p (λ _. within laid.seven) (λ _ _. tt))))))
   where
     within : {s : ℕ} → Lies file s → s ≤ largest
     within lies = omega (arith, lies.room, few)

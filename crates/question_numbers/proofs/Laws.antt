@@ -15,7 +15,7 @@ use Rattle.question.specs.declared.Description.{Description}
 use Rattle.question.specs.Judge.{description_length}
 use Rattle.question_numbers.specs.Numbers.{degree_numbers, grid_numbers, lambert_numbers, level_numbers, product_numbers, definition_numbers, field_numbers, shared_numbers, numbers_of}
 
-pub puts-four :
+pub puts_four :
     (run : List ℤ) (at : ℕ) (s t u v : List ℤ) {a b c d : List ℤ} {i j k n : ℕ}
     → at + length s + length t + length u + length v ≤ length run
     → Puts run at s a i
@@ -23,7 +23,7 @@ pub puts-four :
     → Puts b j u c k
     → Puts c k v d n
     → Puts run at (s ++ t ++ u ++ v) d n
-puts-four run at s t u v fits first second third fourth =
+puts_four run at s t u v fits first second third fourth =
     let two = puts_then run at s t (omega arith) first second in
     let three = puts_then run at (s ++ t) u (omega (arith, length-append s t)) two third in
     puts_then run at (s ++ t ++ u) v (omega (arith, length-append s t, length-append (s ++ t) u)) three fourth

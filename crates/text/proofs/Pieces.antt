@@ -19,13 +19,13 @@ pub told_none : (a : List ℕ) (at left : ℕ) → at + left ≤ length a → To
 told_none a at left fits = record { put = puts_none a at; fits = omega arith }
 
 -- A piece that takes at most `n` of the room.
-pub told-then :
+pub told_then :
     {a : List ℕ} {at : ℕ} {u : List ℕ} (v : List ℕ) (n left : ℕ) {b c : List ℕ} {r q : ℕ}
     → Told a at u (n + left) b r
     → length v ≤ n
     → Puts b r v c q
     → Told a at (u ++ v) left c q
-told-then {a} {at} {u} v n left told short put =
+told_then {a} {at} {u} v n left told short put =
     record { put = puts_then a at u v (omega (arith, told.fits)) told.put put; fits = omega (arith, told.fits, length-append u v) }
 
 -- The run keeps its length.
@@ -37,19 +37,19 @@ pub told_room : {a : List ℕ} {at : ℕ} {u : List ℕ} {left : ℕ} {b : List 
 told_room n less told = omega (arith, told.fits, told.put.1, told_length told)
 
 -- The first digit of a number, and each one behind the digits of its tenth.
-pub told-digit :
+pub told_digit :
     {a : List ℕ} {at : ℕ} (n left : ℕ) {b : List ℕ} {r : ℕ}
     → at + (1 + left) ≤ length a
     → n < 10
     → Puts a at (digit n ∷ []) b r
     → Told a at (decimal n) left b r
-told-digit {a} {at} n left {b} {r} fits small put =
+told_digit {a} {at} n left {b} {r} fits small put =
     subst
     (λ (u : List ℕ). Told a at u left b r)
     (sym (decimal_small n small))
-    (told-then (digit n ∷ []) 1 left (told_none a at (1 + left) fits) (omega arith) put)
+    (told_then (digit n ∷ []) 1 left (told_none a at (1 + left) fits) (omega arith) put)
 
-pub told-digits :
+pub told_digits :
     {a : List ℕ} {at : ℕ} (tenth n left : ℕ) {b c : List ℕ} {r q : ℕ}
     → tenth ≡ n / 10
     → 10 ≤ n
@@ -57,8 +57,8 @@ pub told-digits :
     → Told a at (decimal tenth) (1 + left) b r
     → Puts b r (digit n ∷ []) c q
     → Told a at (decimal n) left c q
-told-digits {a} {at} tenth n left {b} {c} {r} {q} is large fits told put =
+told_digits {a} {at} tenth n left {b} {c} {r} {q} is large fits told put =
     subst
     (λ (u : List ℕ). Told a at u left c q)
     (ap (λ (m : ℕ). decimal m ++ (digit n ∷ [])) is ∙ sym (decimal_more n large fits))
-    (told-then (digit n ∷ []) 1 left told (omega arith) put)
+    (told_then (digit n ∷ []) 1 left told (omega arith) put)

@@ -77,10 +77,10 @@ pub in_limits : InLimits 0x2600_0000 (record { negative = false; size = 0 }) (re
 unfolding of_bits
 in_limits = record { scaled = record { finite_r = tt; e127 = lit≤ tt; d22 = lit≤ tt }; packed = lit≤ tt }
 
-pub not-53 :
+pub not_53 :
     let r : ℕ = 0x2600_0000 in
     let e : Signed = record { negative = false; size = 0 } in
     let d : Signed = record { negative = false; size = 1 } in
     Near 53 false 1 (written_v (value_of r e d 7)) (exact_s r e 7) → ⊥
 unfolding value_of add mul div of_int of_bits
-not-53 near = not-le_of_lt (lit< tt) near
+not_53 near = not-le_of_lt (lit< tt) near

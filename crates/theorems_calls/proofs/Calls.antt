@@ -236,7 +236,7 @@ module _ (file : List ℕ) where
                 );
             near =
                 λ _ g at x standard.
-                (demand_3 file).nearAlone k n x at.d v (one_field k n at) (subst (λ (h : Grid). n < points_of h) (sym at.grid) at.below) told.alone standard;
+                (demand_3 file).near_alone k n x at.d v (one_field k n at) (subst (λ (h : Grid). n < points_of h) (sym at.grid) at.below) told.alone standard;
             alike = λ _ c points same decoded. agreed_value (its_agreement k n told c points same decoded) refl;
           }
       by Pointed.Missing said =

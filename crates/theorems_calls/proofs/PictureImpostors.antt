@@ -92,9 +92,9 @@ no_impostor_for_picture =
       draws_none_white = λ f meets none.
           let drawn = meets two_fields 0 fifteen ∙ sample.first in
           absurd (omega (arith, none two_fields 0 fifteen 11 (omega (arith, ap answer_in drawn)) (omega (arith, ap answer_in drawn)), ap first_grey drawn));
-      looks-at-integers-first = λ f meets first.
+      looks_at_integers_first = λ f meets first.
           absurd (omega (arith, ap answer_in (meets strayed_field 0 []), first strayed_field 0 [] strays, sample.cramped, sample.refused));
-      draws-every-field = λ f meets all.
+      draws_every_field = λ f meets all.
           let told = all strayed_field 0 there.0 fifteen there.1 (omega (arith, there.2)) in
           absurd (omega (arith, told, ap answer_in (meets strayed_field 0 fifteen), sample.strayed));
     }

@@ -88,7 +88,7 @@ answer_in s = s.answer
 pub no_impostor_for_point : NoImpostorForPoint
 no_impostor_for_point =
     record {
-      tells-point-0 = λ f meets same.
+      tells_point_0 = λ f meets same.
           let alike : (shown two_fields 0 1 one_zero).answer ≡ (shown two_fields 0 0 one_zero).answer = ap answer_in (sym (meets two_fields 0 1 one_zero)) ∙ same two_fields 0 1 missing_told.d.grid one_zero missing_there ∙ ap answer_in (meets two_fields 0 0 one_zero) in
           absurd (omega (arith, alike, second_answer, ap answer_in sample.first));
       tells_the_next = λ f meets next.
@@ -99,11 +99,11 @@ no_impostor_for_point =
       refuses_with_decode = λ f meets refuses.
           let refused = refuses strayed_field 0 0 one_zero strays in
           absurd (omega (arith, refused, ap answer_in (meets strayed_field 0 0 one_zero), sample.told));
-      refuses-the-missing = λ f meets refuses.
+      refuses_the_missing = λ f meets refuses.
           let refused = refuses strayed_field 0 1 one_zero strays sample.missing in
           let none : (shown strayed_field 0 1 one_zero).answer ≡ 0 = ap point_code sample.missing in
           absurd (omega (arith, refused, ap answer_in (meets strayed_field 0 1 one_zero), none));
-      tells-every-point = λ f meets all.
+      tells_every_point = λ f meets all.
           let told = all strayed_field 0 3 strayed_told.d.grid one_zero strayed_there (omega arith) in
           absurd (omega (arith, told, ap answer_in (meets strayed_field 0 3 one_zero), sample.strayed));
     }

@@ -34,9 +34,9 @@ pub record NoImpostorForPicture : Type 0 where
   pub draws_none_black : (f : Drawer) → MeetsPicture f → ((file : List ℕ) (k : ℕ) (run : List ℕ) (i : ℕ) → i < (f file k run).answer → (f file k run).answer < 2 ^ 63 → 1 ≤ get_or (f file k run).run i 0) → ⊥
   pub draws_none_white : (f : Drawer) → MeetsPicture f → ((file : List ℕ) (k : ℕ) (run : List ℕ) (i : ℕ) → i < (f file k run).answer → (f file k run).answer < 2 ^ 63 → get_or (f file k run).run i 0 ≤ 254) → ⊥
   -- One that refuses with 16 before it looks at the length of the run, and one that draws every field that is described, and so never refuses with 16.
-  pub looks-at-integers-first :
+  pub looks_at_integers_first :
       (f : Drawer) → MeetsPicture f →
       ((file : List ℕ) (k : ℕ) (run : List ℕ) → RefusedByDecode file k → (f file k run).answer ≡ decode_code (answer file k 0 16777216 16777216)) → ⊥
-  pub draws-every-field :
+  pub draws_every_field :
       (f : Drawer) → MeetsPicture f →
       ((file : List ℕ) (k : ℕ) (d : Description) (run : List ℕ) → describe file k ≡ Described.As d → picture_length (frame_of d.grid) ≤ length run → (f file k run).answer < 2 ^ 63) → ⊥

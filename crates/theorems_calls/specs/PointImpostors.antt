@@ -30,17 +30,17 @@ RefusedByDecode file k = 2 ^ 63 ≤ decode_code (answer file k 0 16777216 167772
 -- What no function does that meets the contract of skeptolyr_point.
 pub record NoImpostorForPoint : Type 0 where
   -- One that tells of point 0 for every point that the field has, one that tells the next point, and one that answers and puts nothing.
-  pub tells-point-0 :
+  pub tells_point_0 :
       (f : Pointer) → MeetsPoint f →
       ((file : List ℕ) (k n : ℕ) (g : Grid) (run : List Float) → HasPoint file k n g → (f file k n run).answer ≡ (f file k 0 run).answer) → ⊥
   pub tells_the_next : (f : Pointer) → MeetsPoint f → ((file : List ℕ) (k n : ℕ) (run : List Float) → (shown file k (n + 1) run).answer < 2 ^ 63 → f file k n run ≡ shown file k (n + 1) run) → ⊥
   pub tells_nothing : (f : Pointer) → MeetsPoint f → ((file : List ℕ) (k n : ℕ) (run : List Float) → (f file k n run).run ≡ run) → ⊥
   -- One that refuses a field's points wherever decode refuses the field, and one that so refuses those that are missing.
   pub refuses_with_decode : (f : Pointer) → MeetsPoint f → ((file : List ℕ) (k n : ℕ) (run : List Float) → RefusedByDecode file k → 2 ^ 63 ≤ (f file k n run).answer) → ⊥
-  pub refuses-the-missing :
+  pub refuses_the_missing :
       (f : Pointer) → MeetsPoint f →
       ((file : List ℕ) (k n : ℕ) (run : List Float) → RefusedByDecode file k → point_into file k n (length run) ≡ Pointed.Missing → 2 ^ 63 ≤ (f file k n run).answer) → ⊥
   -- One that tells every point that a field has, and so never refuses with 16.
-  pub tells-every-point :
+  pub tells_every_point :
       (f : Pointer) → MeetsPoint f →
       ((file : List ℕ) (k n : ℕ) (g : Grid) (run : List Float) → HasPoint file k n g → 1 ≤ length run → (f file k n run).answer < 2 ^ 63) → ⊥

@@ -58,7 +58,7 @@ use Rattle.question.specs.Describe.{refused_at, packed, marked, represented, def
 use Rattle.question.specs.Judge.{Asks, integer_of, is_decodable, has_room, values_asked, description_length, numbers_asked, asked_of, judge}
 use Rattle.question.specs.Judged.{Judged}
 use Rattle.question.proofs.Laws.{described, described_judged, room_fits}
-use Rattle.question.proofs.Chain.{at-section-1, at-section-3, at-section-4, at-section-5, at-section-6, at-section-7}
+use Rattle.question.proofs.Chain.{at_section_1, at_section_3, at_section_4, at_section_5, at_section_6, at_section_7}
 use Rattle.question_place.specs.declared.Asked.{Asked}
 use Rattle.question_place.specs.declared.OnDegrees.{OnDegrees}
 use Rattle.question_place.specs.declared.OnLambert.{OnLambert}
@@ -73,8 +73,19 @@ use Rattle.question_point.proofs.Laws.{told_out}
 use Rattle.question_picture.specs.Picture as Picture
 use Rattle.question_picture.specs.Picture.{picture_length, picture_asked}
 use Rattle.theorems_demands.specs.Questions.{Question, Verdict, of_checked, of_described, of_placed, of_sheet, of_degrees, of_lambert, of_decoded, of_pointed, of_pictured, verdict, check, describe, place, sheet, decode, point, picture, describe_into, place_into, sheet_into, point_into, answered, refused, refused_by}
-use Rattle.theorems_demands.specs.Demand1.{FieldAt, Names, describes, places, decodes, describes_into, places_into, sheets, sheets_into, tells, tells_into, draws, About, AsksPoint, in_degrees, in_degrees_into, on_sheet, on_sheet_into, its_value, its_value_into, AsksOf, for_place, for_place_into, for_sheet, for_sheet_into, AsksValue, a_value, a_value_into, Lends, lends, LendsOctets, lends_octets, AsksAll, all_values, all_greys, LendsNumbers, for_degrees, for_lambert, Fault, Applies, First, Demand1}
+use Rattle.theorems_demands.specs.Demand1.{FieldAt, Names, describes, places, decodes, describes_into, places_into, sheets, sheets_into, tells, tells_into, draws, About, AsksPoint, in_degrees, in_degrees_into, on_sheet, on_sheet_into, its_value, its_value_into, AsksOf, for_place, for_place_into, for_sheet, for_sheet_into, AsksValue, a_value, a_value_into, Lends, lends, LendsOctets, lends_octets, LendsNumbers, for_degrees, for_lambert, Fault, Applies, First, Demand1}
 use Rattle.theorems_demands.specs.Demand1 as Spec
+
+-- All integers of a field are asked by decode and by a picture.
+data AsksAll : Question → Type 0 where
+  all_values : {k start values presence : ℕ} → AsksAll (decode k start values presence)
+  all_greys : {k room : ℕ} → AsksAll (picture k room)
+
+by_decode : {q : Question} {start values presence : ℕ} → Lends q start values presence → AsksAll q
+by_decode lends = all_values
+
+by_picture : {q : Question} {room : ℕ} → LendsOctets q room → AsksAll q
+by_picture lends_octets = all_greys
 
 -- Where a refusal stands in the order.
 abbrev step : Refusal → ℕ
@@ -92,96 +103,96 @@ sooner t before = (t, refl, inr before)
 
 -- Each section in its turn: where it is not taken, that comes before s, and where it is taken, s is caught behind it.
 module _ (file : List ℕ) (l : Located) (s : Refusal) where
-  past-1 :
+  past_1 :
       steps_before order 9 < step s →
       ((i : Identification) → identification_at file l.starts.one.0 ≡ Identified.As i → CaughtIn s (gridded file l i (grid_at file l.starts.three.0))) →
       CaughtIn s (described_at file l)
-  past-1 before = at-section-1 file l (CaughtIn s) (λ _. sooner _ before)
+  past_1 before = at_section_1 file l (CaughtIn s) (λ _. sooner _ before)
 
   module _ (i : Identification) where
-    past-3 :
+    past_3 :
         steps_before order 10 < step s →
         ((g : Grid) → grid_at file l.starts.three.0 ≡ Gridded.On g → CaughtIn s (defined file l i g (product_definition_at file l.starts.four.0 i.reference))) →
         CaughtIn s (gridded file l i (grid_at file l.starts.three.0))
-    past-3 before = at-section-3 file l (CaughtIn s) i (λ _. sooner _ before)
+    past_3 before = at_section_3 file l (CaughtIn s) i (λ _. sooner _ before)
 
     module _ (g : Grid) where
-      past-4 :
+      past_4 :
           steps_before order 11 < step s →
           ((m : ProductDefinition) → product_definition_at file l.starts.four.0 i.reference ≡ Defined.As m → CaughtIn s (represented file l i g m (representation_at file l.starts.five.0))) →
           CaughtIn s (defined file l i g (product_definition_at file l.starts.four.0 i.reference))
-      past-4 before = at-section-4 file l (CaughtIn s) i g (λ _. sooner _ before)
+      past_4 before = at_section_4 file l (CaughtIn s) i g (λ _. sooner _ before)
 
       module _ (m : ProductDefinition) where
-        past-5 :
+        past_5 :
             steps_before order 12 < step s →
             ((r : Representation) → representation_at file l.starts.five.0 ≡ Represented.By r → CaughtIn s (marked file l i g m r (presence_at file l.starts.six.0 l.bitmap (points_of g) r.n))) →
             CaughtIn s (represented file l i g m (representation_at file l.starts.five.0))
-        past-5 before = at-section-5 file l (CaughtIn s) i g m (λ _. sooner _ before)
+        past_5 before = at_section_5 file l (CaughtIn s) i g m (λ _. sooner _ before)
 
         module _ (r : Representation) where
-          past-6 :
+          past_6 :
               steps_before order 13 < step s →
               ((p : Presence) → presence_at file l.starts.six.0 l.bitmap (points_of g) r.n ≡ Marked.As p → CaughtIn s (packed file l i g m r p (data_at file l.starts.seven.0 r))) →
               CaughtIn s (marked file l i g m r (presence_at file l.starts.six.0 l.bitmap (points_of g) r.n))
-          past-6 before = at-section-6 file l (CaughtIn s) i g m r (λ _. sooner _ before)
+          past_6 before = at_section_6 file l (CaughtIn s) i g m r (λ _. sooner _ before)
 
 -- A section that is not taken is caught, whatever else is wrong with the field.
 module _ (file : List ℕ) (l : Located) where
   caught_1 : identification_at file l.starts.one.0 ≡ Identified.NotTaken → CaughtIn (refusal Why.BadIdentification l.starts.one.0) (described_at file l)
-  caught_1 fails = at-section-1 file l (CaughtIn _) (λ _. here) (λ i taken. apart cc)
+  caught_1 fails = at_section_1 file l (CaughtIn _) (λ _. here) (λ i taken. apart cc)
 
   caught_3 : grid_at file l.starts.three.0 ≡ Gridded.NotTaken → CaughtIn (refusal Why.BadGrid l.starts.three.0) (described_at file l)
   caught_3 fails =
-      past-1 file l _ (omega (arith, in_order))
-      (λ i _. at-section-3 file l (CaughtIn _) i (λ _. here)
+      past_1 file l _ (omega (arith, in_order))
+      (λ i _. at_section_3 file l (CaughtIn _) i (λ _. here)
       (λ g taken. apart cc))
 
-  caught-4 :
+  caught_4 :
       {i : Identification} →
       identification_at file l.starts.one.0 ≡ Identified.As i →
       product_definition_at file l.starts.four.0 i.reference ≡ Defined.NotTaken →
       CaughtIn (refusal Why.BadProduct l.starts.four.0) (described_at file l)
-  caught-4 {i} of_one fails =
-      past-1 file l _ (omega (arith, in_order))
-      (λ j same-one. past-3 file l _ j (omega (arith, in_order))
-      (λ g _. at-section-4 file l (CaughtIn _) j g (λ _. here)
+  caught_4 {i} of_one fails =
+      past_1 file l _ (omega (arith, in_order))
+      (λ j same-one. past_3 file l _ j (omega (arith, in_order))
+      (λ g _. at_section_4 file l (CaughtIn _) j g (λ _. here)
       (λ m taken. let same : i ≡ j = cc in apart cc)))
 
   caught_5 : representation_at file l.starts.five.0 ≡ Represented.NotTaken → CaughtIn (refusal Why.BadRepresentation l.starts.five.0) (described_at file l)
   caught_5 fails =
-      past-1 file l _ (omega (arith, in_order))
-      (λ i _. past-3 file l _ i (omega (arith, in_order))
-      (λ g _. past-4 file l _ i g (omega (arith, in_order))
-      (λ m _. at-section-5 file l (CaughtIn _) i g m (λ _. here)
+      past_1 file l _ (omega (arith, in_order))
+      (λ i _. past_3 file l _ i (omega (arith, in_order))
+      (λ g _. past_4 file l _ i g (omega (arith, in_order))
+      (λ m _. at_section_5 file l (CaughtIn _) i g m (λ _. here)
       (λ r taken. apart cc))))
 
-  caught-6 :
+  caught_6 :
       {g : Grid} {r : Representation} →
       grid_at file l.starts.three.0 ≡ Gridded.On g →
       representation_at file l.starts.five.0 ≡ Represented.By r →
       presence_at file l.starts.six.0 l.bitmap (points_of g) r.n ≡ Marked.NotTaken →
       CaughtIn (refusal Why.BadBitmap l.starts.six.0) (described_at file l)
-  caught-6 {g} {r} of_three of-five fails =
-      past-1 file l _ (omega (arith, in_order))
-      (λ i _. past-3 file l _ i (omega (arith, in_order))
-      (λ h same-three. past-4 file l _ i h (omega (arith, in_order))
-      (λ m _. past-5 file l _ i h m (omega (arith, in_order))
-      (λ q same-five. at-section-6 file l (CaughtIn _) i h m q (λ _. here)
+  caught_6 {g} {r} of_three of_five fails =
+      past_1 file l _ (omega (arith, in_order))
+      (λ i _. past_3 file l _ i (omega (arith, in_order))
+      (λ h same-three. past_4 file l _ i h (omega (arith, in_order))
+      (λ m _. past_5 file l _ i h m (omega (arith, in_order))
+      (λ q same-five. at_section_6 file l (CaughtIn _) i h m q (λ _. here)
       (λ p taken. let same : g ≡ h = cc in let alike : r ≡ q = cc in apart cc)))))
 
-  caught-7 :
+  caught_7 :
       {r : Representation} →
       representation_at file l.starts.five.0 ≡ Represented.By r →
       data_at file l.starts.seven.0 r ≡ Packed.NotTaken →
       CaughtIn (refusal Why.BadPacking l.starts.seven.0) (described_at file l)
-  caught-7 {r} of-five fails =
-      past-1 file l _ (omega (arith, in_order))
-      (λ i _. past-3 file l _ i (omega (arith, in_order))
-      (λ g _. past-4 file l _ i g (omega (arith, in_order))
-      (λ m _. past-5 file l _ i g m (omega (arith, in_order))
-      (λ q same-five. past-6 file l _ i g m q (omega (arith, in_order))
-      (λ p _. at-section-7 file l (CaughtIn _) i g m q p (λ _. here)
+  caught_7 {r} of_five fails =
+      past_1 file l _ (omega (arith, in_order))
+      (λ i _. past_3 file l _ i (omega (arith, in_order))
+      (λ g _. past_4 file l _ i g (omega (arith, in_order))
+      (λ m _. past_5 file l _ i g m (omega (arith, in_order))
+      (λ q same-five. past_6 file l _ i g m q (omega (arith, in_order))
+      (λ p _. at_section_7 file l (CaughtIn _) i g m q p (λ _. here)
       (λ x taken. let alike : r ≡ q = cc in apart cc))))))
 
   abbrev CaughtOr : Refusal → Described → Type 0
@@ -190,12 +201,12 @@ module _ (file : List ℕ) (l : Located) where
   -- Behind 14, the field is described, or it is refused by what comes before s.
   described_or : (s : Refusal) → steps_before order 14 < step s → CaughtOr s (described_at file l)
   described_or s behind =
-      at-section-1 file l (CaughtOr s) (λ _. inl (sooner _ (omega (arith, in_order, behind))))
-      (λ i _. at-section-3 file l (CaughtOr s) i (λ _. inl (sooner _ (omega (arith, in_order, behind))))
-      (λ g _. at-section-4 file l (CaughtOr s) i g (λ _. inl (sooner _ (omega (arith, in_order, behind))))
-      (λ m _. at-section-5 file l (CaughtOr s) i g m (λ _. inl (sooner _ (omega (arith, in_order, behind))))
-      (λ r _. at-section-6 file l (CaughtOr s) i g m r (λ _. inl (sooner _ (omega (arith, in_order, behind))))
-      (λ p _. at-section-7 file l (CaughtOr s) i g m r p (λ _. inl (sooner _ behind)) (λ x _. inr (_, refl)))))))
+      at_section_1 file l (CaughtOr s) (λ _. inl (sooner _ (omega (arith, in_order, behind))))
+      (λ i _. at_section_3 file l (CaughtOr s) i (λ _. inl (sooner _ (omega (arith, in_order, behind))))
+      (λ g _. at_section_4 file l (CaughtOr s) i g (λ _. inl (sooner _ (omega (arith, in_order, behind))))
+      (λ m _. at_section_5 file l (CaughtOr s) i g m (λ _. inl (sooner _ (omega (arith, in_order, behind))))
+      (λ r _. at_section_6 file l (CaughtOr s) i g m r (λ _. inl (sooner _ (omega (arith, in_order, behind))))
+      (λ p _. at_section_7 file l (CaughtOr s) i g m r p (λ _. inl (sooner _ behind)) (λ x _. inr (_, refl)))))))
 
 -- An answer is no refusal, and a refusal is one alone.
 clash_verdict : {A : Type 0} {number place : ℕ} → answered ≡ refused number place → A
@@ -332,14 +343,14 @@ module _ (file : List ℕ) where
   no_field k fs is few = ap (field_in file k) is ∙ rw (le-ltb k (length fs) few)
 
   -- What decode and place answer of a field that is described.
-  decoded-as :
+  decoded_as :
       {q : Question} {l : Located} {d : Description} {r : Refusal} {start values presence : ℕ} →
       About file q l →
       Lends q start values presence →
       described_at file l ≡ Described.As d →
       values_asked file start values presence d ≡ Described.Refused r →
       verdict file q ≡ refused_by r
-  decoded-as {l = l} {r = r} about (lends {k = k} {start = start} {values = values} {presence = presence}) said e = by about.names about.lies
+  decoded_as {l = l} {r = r} about (lends {k = k} {start = start} {values = values} {presence = presence}) said e = by about.names about.lies
     where
       by : {j : ℕ} → Names (decode k start values presence) j → FieldAt file j l → verdict file (decode k start values presence) ≡ refused_by r
       by decodes at =
@@ -347,14 +358,14 @@ module _ (file : List ℕ) where
           ∙ ap (λ (a : Described). of_decoded (answer_of (outcome_by file a))) e
 
   -- What picture answers of a field that is described.
-  drawn-as :
+  drawn_as :
       {q : Question} {l : Located} {d : Description} {r : Refusal} {room : ℕ} →
       About file q l →
       LendsOctets q room →
       described_at file l ≡ Described.As d →
       picture_asked file room d ≡ Picture.refuses r →
       verdict file q ≡ refused_by r
-  drawn-as {l = l} {r = r} about (lends_octets {k} {room}) said e = by about.names about.lies
+  drawn_as {l = l} {r = r} about (lends_octets {k} {room}) said e = by about.names about.lies
     where
       by : {j : ℕ} → Names (picture k room) j → FieldAt file j l → verdict file (picture k room) ≡ refused_by r
       by draws at =
@@ -392,14 +403,14 @@ module _ (file : List ℕ) where
       by tells_into = refl
 
   -- What is answered of a field that is described.
-  place-refused :
+  place_refused :
       {q : Question} {l : Located} {d : Description} {r : Refusal} {template n room : ℕ} →
       About file q l →
       AsksPlace q template n room →
       described_at file l ≡ Described.As d →
       kind_asked template n room d.grid ≡ Asked.Refused r →
       verdict file q ≡ refused_by r
-  place-refused {template = template} {n = n} {room = room} about lent said e =
+  place_refused {template = template} {n = n} {room = room} about lent said e =
       place_verdict lent about.names ∙ ap of_asked (ap (point_of template n room) (described_is about.lies ∙ said) ∙ e)
 
   value_refused :
@@ -413,20 +424,20 @@ module _ (file : List ℕ) where
       value_verdict lent about.names ∙ ap of_pointed (ap (pointed_by file n room) (described_is about.lies ∙ said) ∙ e)
 
   -- Where the point or the room is refused, so is the question, unless the grid is of the other kind.
-  point-refused :
+  point_refused :
       {q : Question} {l : Located} {d : Description} {r : Refusal} {n needed room : ℕ} →
       About file q l →
       AsksPoint q n needed room →
       described_at file l ≡ Described.As d →
       point_asked n needed room d.grid ≡ Asked.Refused r →
       (verdict file q ≡ refused_by r) ⊎ (verdict file q ≡ refused_by (refusal Why.OtherGrid 0))
-  point-refused {q} {l} {d} {r} {n} {needed} {room} about lent said e = by (sort_of lent)
+  point_refused {q} {l} {d} {r} {n} {needed} {room} about lent said e = by (sort_of lent)
     where
       by : ((template : ℕ) × AsksPlace q template n room × (needed ≡ 2)) ⊎ (AsksIn q n room × (needed ≡ 1)) → (verdict file q ≡ refused_by r) ⊎ (verdict file q ≡ refused_by (refusal Why.OtherGrid 0))
       by (inl (template, lies, two)) =
           split (eqb (template_of d.grid) template)
-          (λ kind. inl (place-refused {r = r} about lies said (rw kind (rw two at e))))
-          (λ another. inr (place-refused {r = refusal Why.OtherGrid 0} about lies said (rw another)))
+          (λ kind. inl (place_refused {r = r} about lies said (rw kind (rw two at e))))
+          (λ another. inr (place_refused {r = refusal Why.OtherGrid 0} about lies said (rw another)))
       by (inr (told, one)) = inl (value_refused {r = r} about told said (ap (point_if file d n) (rw one at e)))
 
   -- 20: the grid is of the other kind.
@@ -442,9 +453,9 @@ module _ (file : List ℕ) where
       by : CaughtOr file l (refusal Why.OtherGrid 0) (described_at file l) → Caught file q (refusal Why.OtherGrid 0)
       by (inl caught) = caught_by about caught
       by (inr (d, said)) =
-          let of-grid = (described_judged file l d said).of_three in
+          let of_grid = (described_judged file l d said).of_three in
           let same : g ≡ d.grid = cc in
-          (refusal Why.OtherGrid 0, place-refused {r = refusal Why.OtherGrid 0} about (place_of_lem lent).2 said (rw (ne_eqb (template_of d.grid) template (rw same at differs))), inl refl)
+          (refusal Why.OtherGrid 0, place_refused {r = refusal Why.OtherGrid 0} about (place_of_lem lent).2 said (rw (ne_eqb (template_of d.grid) template (rw same at differs))), inl refl)
 
   -- A refusal of the point or of the room is caught, or 20 is, which comes before both.
   or_other : (q : Question) {t s : Refusal} → (t ≡ s) ⊎ (step t < step s) → steps_before order 20 < step s → (verdict file q ≡ refused_by t) ⊎ (verdict file q ≡ refused_by (refusal Why.OtherGrid 0)) → Caught file q s
@@ -464,25 +475,25 @@ module _ (file : List ℕ) where
       by : CaughtOr file l (refusal Why.NoSuchPoint 0) (described_at file l) → Caught file q (refusal Why.NoSuchPoint 0)
       by (inl caught) = caught_by about caught
       by (inr (d, said)) =
-          let of-grid = (described_judged file l d said).of_three in
+          let of_grid = (described_judged file l d said).of_three in
           let same : g ≡ d.grid = cc in
-          or_other q (inl refl) (omega (arith, in_order)) (point-refused {r = refusal Why.NoSuchPoint 0} about lent said (rw (le-leb (points_of d.grid) n (rw same at few))))
+          or_other q (inl refl) (omega (arith, in_order)) (point_refused {r = refusal Why.NoSuchPoint 0} about lent said (rw (le-leb (points_of d.grid) n (rw same at few))))
 
   -- 15: the run is too short for what tells of the point. 20 and 17 come before it.
-  short-point :
+  short_point :
       {q : Question} {l : Located} {n needed room : ℕ} →
       About file q l →
       AsksPoint q n needed room →
       room < needed →
       Caught file q (refusal Why.NoRoom 0)
-  short-point {q} {l} {n} {needed} {room} about lent less = by (described_or file l (refusal Why.NoRoom 0) (omega (arith, in_order)))
+  short_point {q} {l} {n} {needed} {room} about lent less = by (described_or file l (refusal Why.NoRoom 0) (omega (arith, in_order)))
     where
       by : CaughtOr file l (refusal Why.NoRoom 0) (described_at file l) → Caught file q (refusal Why.NoRoom 0)
       by (inl caught) = caught_by about caught
       by (inr (d, said)) =
           split (leb (points_of d.grid) n)
-          (λ behind. or_other q {t = refusal Why.NoSuchPoint 0} (inr (omega (arith, in_order))) (omega (arith, in_order)) (point-refused {r = refusal Why.NoSuchPoint 0} about lent said (rw behind)))
-          (λ there. or_other q (inl refl) (omega (arith, in_order)) (point-refused {r = refusal Why.NoRoom 0} about lent said (rw (there, lt-ltb room needed less))))
+          (λ behind. or_other q {t = refusal Why.NoSuchPoint 0} (inr (omega (arith, in_order))) (omega (arith, in_order)) (point_refused {r = refusal Why.NoSuchPoint 0} about lent said (rw behind)))
+          (λ there. or_other q (inl refl) (omega (arith, in_order)) (point_refused {r = refusal Why.NoRoom 0} about lent said (rw (there, lt-ltb room needed less))))
 
   -- 15: the run is too short for the numbers of a description.
   short :
@@ -506,7 +517,7 @@ module _ (file : List ℕ) where
       by : CaughtOr file l (refusal Why.NoRoom 0) (described_at file l) → Caught file q (refusal Why.NoRoom 0)
       by (inl caught) = caught_by about caught
       by (inr (d, said)) =
-          let of-grid = (described_judged file l d said).of_three in
+          let of_grid = (described_judged file l d said).of_three in
           let same : g ≡ d.grid = cc in
           lacking d about same lent few said
 
@@ -523,28 +534,28 @@ module _ (file : List ℕ) where
       by : CaughtOr file l (refusal Why.NoRoom 0) (described_at file l) → Caught file q (refusal Why.NoRoom 0)
       by (inl caught) = caught_by about caught
       by (inr (d, said)) =
-          let of-grid = (described_judged file l d said).of_three in
+          let of_grid = (described_judged file l d said).of_three in
           let same : g ≡ d.grid = cc in
           split (has_room start (points_of d.grid) values presence)
           (λ room. absurd (fits (rw same (room_fits start (points_of d.grid) values presence room))))
-          (λ none. (refusal Why.NoRoom 0, decoded-as {r = refusal Why.NoRoom 0} about lent said (rw none), inl refl))
+          (λ none. (refusal Why.NoRoom 0, decoded_as {r = refusal Why.NoRoom 0} about lent said (rw none), inl refl))
 
   -- 15: the run is too short for the picture.
-  cramped-picture :
+  cramped_picture :
       {q : Question} {l : Located} {g : Grid} {room : ℕ} →
       About file q l →
       LendsOctets q room →
       grid_at file l.starts.three.0 ≡ Gridded.On g →
       room < picture_length (frame_of g) →
       Caught file q (refusal Why.NoRoom 0)
-  cramped-picture {q} {l} {g} {room} about lent of_three less = by (described_or file l (refusal Why.NoRoom 0) (omega (arith, in_order)))
+  cramped_picture {q} {l} {g} {room} about lent of_three less = by (described_or file l (refusal Why.NoRoom 0) (omega (arith, in_order)))
     where
       by : CaughtOr file l (refusal Why.NoRoom 0) (described_at file l) → Caught file q (refusal Why.NoRoom 0)
       by (inl caught) = caught_by about caught
       by (inr (d, said)) =
-          let of-grid = (described_judged file l d said).of_three in
+          let of_grid = (described_judged file l d said).of_three in
           let same : g ≡ d.grid = cc in
-          (refusal Why.NoRoom 0, drawn-as {r = refusal Why.NoRoom 0} about lent said (rw (lt-ltb room (picture_length (frame_of d.grid)) (rw same at less))), inl refl)
+          (refusal Why.NoRoom 0, drawn_as {r = refusal Why.NoRoom 0} about lent said (rw (lt-ltb room (picture_length (frame_of d.grid)) (rw same at less))), inl refl)
 
   -- 16: an integer is out of its range. 15 comes before it.
   out :
@@ -555,32 +566,32 @@ module _ (file : List ℕ) where
       m < r.n →
       is_in_range (integer_at file l.starts.seven.0 r m) ≡ false →
       Caught file q (refusal Why.ValueOutOfRange l.starts.seven.0)
-  out {q} {l} {r} m about asks of-five among outside = by (described_or file l (refusal Why.ValueOutOfRange l.starts.seven.0) (omega (arith, in_order)))
+  out {q} {l} {r} m about asks of_five among outside = by (described_or file l (refusal Why.ValueOutOfRange l.starts.seven.0) (omega (arith, in_order)))
     where
       -- Behind 15, where a field is described whose integers are not all in their range.
       refused_all : {q : Question} (d : Description) → About file q l → AsksAll q → described_at file l ≡ Described.As d → is_decodable file d ≡ false → l.starts.seven.0 ≡ d.starts.seven.0 →
           Caught file q (refusal Why.ValueOutOfRange l.starts.seven.0)
       refused_all d about (all_values {k} {start} {values} {presence}) said fails seven =
           split (has_room start (points_of d.grid) values presence)
-          (λ room. (refusal Why.ValueOutOfRange d.starts.seven.0, decoded-as {r = refusal Why.ValueOutOfRange d.starts.seven.0} about (lends {k = k} {start = start} {values = values} {presence = presence}) said (rw (room, fails)), inl (ap (refusal Why.ValueOutOfRange) (sym seven))))
-          (λ none. (refusal Why.NoRoom 0, decoded-as {r = refusal Why.NoRoom 0} about (lends {k = k} {start = start} {values = values} {presence = presence}) said (rw none), inr (omega (arith, in_order))))
+          (λ room. (refusal Why.ValueOutOfRange d.starts.seven.0, decoded_as {r = refusal Why.ValueOutOfRange d.starts.seven.0} about (lends {k = k} {start = start} {values = values} {presence = presence}) said (rw (room, fails)), inl (ap (refusal Why.ValueOutOfRange) (sym seven))))
+          (λ none. (refusal Why.NoRoom 0, decoded_as {r = refusal Why.NoRoom 0} about (lends {k = k} {start = start} {values = values} {presence = presence}) said (rw none), inr (omega (arith, in_order))))
       refused_all d about (all_greys {k} {room}) said fails seven =
           split (ltb room (picture_length (frame_of d.grid)))
-          (λ none. (refusal Why.NoRoom 0, drawn-as {r = refusal Why.NoRoom 0} about (lends_octets {k = k} {room = room}) said (rw none), inr (omega (arith, in_order))))
-          (λ enough. (refusal Why.ValueOutOfRange d.starts.seven.0, drawn-as {r = refusal Why.ValueOutOfRange d.starts.seven.0} about (lends_octets {k = k} {room = room}) said (rw (enough, fails)), inl (ap (refusal Why.ValueOutOfRange) (sym seven))))
+          (λ none. (refusal Why.NoRoom 0, drawn_as {r = refusal Why.NoRoom 0} about (lends_octets {k = k} {room = room}) said (rw none), inr (omega (arith, in_order))))
+          (λ enough. (refusal Why.ValueOutOfRange d.starts.seven.0, drawn_as {r = refusal Why.ValueOutOfRange d.starts.seven.0} about (lends_octets {k = k} {room = room}) said (rw (enough, fails)), inl (ap (refusal Why.ValueOutOfRange) (sym seven))))
 
       by : CaughtOr file l (refusal Why.ValueOutOfRange l.starts.seven.0) (described_at file l) → Caught file q (refusal Why.ValueOutOfRange l.starts.seven.0)
       by (inl caught) = caught_by about caught
       by (inr (d, said)) =
           let judged = described_judged file l d said in
-          let of-representation = judged.of_five in
+          let of_representation = judged.of_five in
           let same : r ≡ d.representation = cc in
           let seven : l.starts.seven.0 ≡ d.starts.seven.0 = ap (λ (s : Starts). s.seven.0) (sym judged.of_starts) in
           let beyond : is_in_range (integer_of file d m) ≡ false = rw (← same, ← seven) outside in
           refused_all d about asks said (in_range_out (integer_of file d) d.representation.n {j = m} (rw (← same) among) beyond) seven
 
   -- 16: an integer up to the point's own is out of its range. 17 and 15 come before it.
-  out-up-to :
+  out_up_to :
       {q : Question} {l : Located} {g : Grid} {r : Representation} {p : Presence} {n : ℕ} (j : ℕ) →
       About file q l →
       AsksValue q n →
@@ -591,14 +602,14 @@ module _ (file : List ℕ) where
       j ≤ present_before file p (points_of g) n →
       is_in_range (integer_at file l.starts.seven.0 r j) ≡ false →
       Caught file q (refusal Why.ValueOutOfRange l.starts.seven.0)
-  out-up-to {q} {l} {g} {r} {p} {n} j about asks of_three of-five of-six present among outside = by (described_or file l (refusal Why.ValueOutOfRange l.starts.seven.0) (omega (arith, in_order)))
+  out_up_to {q} {l} {g} {r} {p} {n} j about asks of_three of_five of_six present among outside = by (described_or file l (refusal Why.ValueOutOfRange l.starts.seven.0) (omega (arith, in_order)))
     where
       by : CaughtOr file l (refusal Why.ValueOutOfRange l.starts.seven.0) (described_at file l) → Caught file q (refusal Why.ValueOutOfRange l.starts.seven.0)
       by (inl caught) = caught_by about caught
       by (inr (d, said)) =
           let judged = described_judged file l d said in
-          let of-grid = judged.of_three in
-          let of-representation = judged.of_five in
+          let of_grid = judged.of_three in
+          let of_representation = judged.of_five in
           let grids : g ≡ d.grid = cc in
           let alike : r ≡ d.representation = cc in
           let of-presence : presence_at file l.starts.six.0 l.bitmap (points_of g) r.n ≡ Marked.As d.presence = rw (grids, alike) judged.of_six in
@@ -637,20 +648,22 @@ module _ (file : List ℕ) where
       told file q (refusal Why.NoSuchField 0) (refusal Why.NoSuchField 0, asked names (no_field k fs ((tiles_so file m fs).1 accepted) few), inl refl)
   caught {q} (Spec.section_1 {l} about fails) = told file q (refusal Why.BadIdentification l.starts.one.0) (caught_by about (caught_1 file l fails))
   caught {q} (Spec.section_3 {l} about fails) = told file q (refusal Why.BadGrid l.starts.three.0) (caught_by about (caught_3 file l fails))
-  caught {q} (Spec.section-4 {l} about of_one fails) = told file q (refusal Why.BadProduct l.starts.four.0) (caught_by about (caught-4 file l of_one fails))
+  caught {q} (Spec.section_4 {l} about of_one fails) = told file q (refusal Why.BadProduct l.starts.four.0) (caught_by about (caught_4 file l of_one fails))
   caught {q} (Spec.section_5 {l} about fails) = told file q (refusal Why.BadRepresentation l.starts.five.0) (caught_by about (caught_5 file l fails))
-  caught {q} (Spec.section-6 {l} about of_three of-five fails) = told file q (refusal Why.BadBitmap l.starts.six.0) (caught_by about (caught-6 file l of_three of-five fails))
-  caught {q} (Spec.section-7 {l} about of-five fails) = told file q (refusal Why.BadPacking l.starts.seven.0) (caught_by about (caught-7 file l of-five fails))
+  caught {q} (Spec.section_6 {l} about of_three of_five fails) = told file q (refusal Why.BadBitmap l.starts.six.0) (caught_by about (caught_6 file l of_three of_five fails))
+  caught {q} (Spec.section_7 {l} about of_five fails) = told file q (refusal Why.BadPacking l.starts.seven.0) (caught_by about (caught_7 file l of_five fails))
   caught {q} (Spec.no_room {start = start} {values = values} {presence = presence} about lent of_three fits) = told file q (refusal Why.NoRoom 0) (full start values presence about lent of_three fits)
-  caught {q} (Spec.no-room-for-numbers about of_three lent few) = told file q (refusal Why.NoRoom 0) (short about of_three lent few)
-  caught {q} (Spec.no_room_for_point about lent few) = told file q (refusal Why.NoRoom 0) (short-point about lent few)
-  caught {q} (Spec.no-room-for-picture about lent of_three less) = told file q (refusal Why.NoRoom 0) (cramped-picture about lent of_three less)
-  caught {q} (Spec.out_of_range {l} {m = m} about asks of-five among outside) =
-      told file q (refusal Why.ValueOutOfRange l.starts.seven.0) (out m about asks of-five among outside)
-  caught {q} (Spec.out-of-range-up-to {l} {j = j} about asks of_three of-five of-six present among outside) =
-      told file q (refusal Why.ValueOutOfRange l.starts.seven.0) (out-up-to j about asks of_three of-five of-six present among outside)
-  caught {q} (Spec.no-such-point about lent of_three few) = told file q (refusal Why.NoSuchPoint 0) (beyond about lent of_three few)
-  caught {q} (Spec.other-grid about lent of_three differs) = told file q (refusal Why.OtherGrid 0) (other about lent of_three differs)
+  caught {q} (Spec.no_room_for_numbers about of_three lent few) = told file q (refusal Why.NoRoom 0) (short about of_three lent few)
+  caught {q} (Spec.no_room_for_point about lent few) = told file q (refusal Why.NoRoom 0) (short_point about lent few)
+  caught {q} (Spec.no_room_for_picture about lent of_three less) = told file q (refusal Why.NoRoom 0) (cramped_picture about lent of_three less)
+  caught {q} (Spec.out_of_range {l} {m = m} about lent of_five among outside) =
+      told file q (refusal Why.ValueOutOfRange l.starts.seven.0) (out m about (by_decode lent) of_five among outside)
+  caught {q} (Spec.out_of_range_for_picture {l} {m = m} about lent of_five among outside) =
+      told file q (refusal Why.ValueOutOfRange l.starts.seven.0) (out m about (by_picture lent) of_five among outside)
+  caught {q} (Spec.out_of_range_up_to {l} {j = j} about asks of_three of_five of_six present among outside) =
+      told file q (refusal Why.ValueOutOfRange l.starts.seven.0) (out_up_to j about asks of_three of_five of_six present among outside)
+  caught {q} (Spec.no_such_point about lent of_three few) = told file q (refusal Why.NoSuchPoint 0) (beyond about lent of_three few)
+  caught {q} (Spec.other_grid about lent of_three differs) = told file q (refusal Why.OtherGrid 0) (other about lent of_three differs)
 
   -- A question is refused only by a refusal that applies: of the file, and of the field that is asked about.
   abbrev AppliesBy : Question → Refusal → Type 0
@@ -694,12 +707,12 @@ module _ (file : List ℕ) where
   module _ {q : Question} {k : ℕ} (names : Names q k) where
     explained : {l : Located} → About file q l → Explained q (described_at file l)
     explained {l} about =
-        at-section-1 file l (Explained q) (λ e. explain (Spec.section_1 about e))
-        (λ i of_one. at-section-3 file l (Explained q) i (λ e. explain (Spec.section_3 about e))
-        (λ g of_three. at-section-4 file l (Explained q) i g (λ e. explain (Spec.section-4 about of_one e))
-        (λ m _. at-section-5 file l (Explained q) i g m (λ e. explain (Spec.section_5 about e))
-        (λ r of-five. at-section-6 file l (Explained q) i g m r (λ e. explain (Spec.section-6 about of_three of-five e))
-        (λ p _. at-section-7 file l (Explained q) i g m r p (λ e. explain (Spec.section-7 about of-five e))
+        at_section_1 file l (Explained q) (λ e. explain (Spec.section_1 about e))
+        (λ i of_one. at_section_3 file l (Explained q) i (λ e. explain (Spec.section_3 about e))
+        (λ g of_three. at_section_4 file l (Explained q) i g (λ e. explain (Spec.section_4 about of_one e))
+        (λ m _. at_section_5 file l (Explained q) i g m (λ e. explain (Spec.section_5 about e))
+        (λ r of_five. at_section_6 file l (Explained q) i g m r (λ e. explain (Spec.section_6 about of_three of_five e))
+        (λ p _. at_section_7 file l (Explained q) i g m r p (λ e. explain (Spec.section_7 about of_five e))
         (λ _ _ r same. apart cc))))))
 
     described_applies : Explained q (Describe.describe file k)
@@ -731,8 +744,8 @@ module _ (file : List ℕ) where
       about = record { k = k; names = describes_into; lies = (described_at_lem k said).1 }
 
       by : (g : Grid) → grid_at file (described_at_lem k said).0.starts.three.0 ≡ Gridded.On g → room < description_length g → AppliesBy (describe_into k room) (refusal Why.NoRoom 0)
-      by (Grid.Degrees g) of_three few = Spec.no-room-for-numbers about of_three for_degrees few
-      by (Grid.Lambert g) of_three few = Spec.no-room-for-numbers about of_three for_lambert few
+      by (Grid.Degrees g) of_three few = Spec.no_room_for_numbers about of_three for_degrees few
+      by (Grid.Lambert g) of_three few = Spec.no_room_for_numbers about of_three for_lambert few
 
   -- What is refused of a point applies: of the field, or of its kind, its number and its room.
   abbrev ExplainedPoint : Question → Asked → Type 0
@@ -748,12 +761,12 @@ module _ (file : List ℕ) where
       split (eqb (template_of d.grid) template)
       (λ kind.
       split (leb (points_of d.grid) n)
-      (λ behind. rw (kind, behind) (explain_point (Spec.no-such-point about (placed_asks lent).0 at.2.of_three (leb-true (points_of d.grid) n behind))))
+      (λ behind. rw (kind, behind) (explain_point (Spec.no_such_point about (placed_asks lent).0 at.2.of_three (leb-true (points_of d.grid) n behind))))
       (λ there.
       split (ltb room 2)
       (λ few. rw (kind, there, few) (explain_point (Spec.no_room_for_point about (placed_asks lent).0 (ltb-true room 2 few))))
       (λ enough. rw (kind, there, enough) (λ r same. apart cc))))
-      (λ another. rw another (explain_point (Spec.other-grid about (placed_asks lent).1 at.2.of_three (λ same. let is = eq-eqb (template_of d.grid) template same in apart cc))))
+      (λ another. rw another (explain_point (Spec.other_grid about (placed_asks lent).1 at.2.of_three (λ same. let is = eq-eqb (template_of d.grid) template same in apart cc))))
 
   point_applies : {q : Question} {k template n room : ℕ} → Names q k → AsksPlace q template n room → ExplainedPoint q (point_of template n room (Describe.describe file k))
   point_applies {q} {k} {template} {n} {room} names lent = by (Describe.describe file k) refl
@@ -774,7 +787,7 @@ module _ (file : List ℕ) where
       let starts : d.starts.seven.0 ≡ at.0.starts.seven.0 = ap (λ (s : Starts). s.seven.0) at.2.of_starts in
       rw (room, fails)
       (explain
-      (rw starts (Spec.out_of_range (record { k = k; names = decodes; lies = at.1 }) all_values at.2.of_five outside.1 (rw (sym starts) outside.2))))))
+      (rw starts (Spec.out_of_range (record { k = k; names = decodes; lies = at.1 }) lends at.2.of_five outside.1 (rw (sym starts) outside.2))))))
       (λ none.
       rw none
       (explain (Spec.no_room (record { k = k; names = decodes; lies = at.1 }) lends at.2.of_three (cramped none))))
@@ -805,7 +818,7 @@ module _ (file : List ℕ) where
       let asks = valued_asks lent in
       let starts : d.starts.seven.0 ≡ at.0.starts.seven.0 = ap (λ (s : Starts). s.seven.0) at.2.of_starts in
       split (leb (points_of d.grid) n)
-      (λ behind. told_applies (refusal Why.NoSuchPoint 0) (rw behind at e) (Spec.no-such-point about asks.0 at.2.of_three (leb-true (points_of d.grid) n behind)))
+      (λ behind. told_applies (refusal Why.NoSuchPoint 0) (rw behind at e) (Spec.no_such_point about asks.0 at.2.of_three (leb-true (points_of d.grid) n behind)))
       (λ there.
       split (ltb room 1)
       (λ few. told_applies (refusal Why.NoRoom 0) (rw (there, few) at e) (Spec.no_room_for_point about asks.0 (ltb-true room 1 few)))
@@ -817,7 +830,7 @@ module _ (file : List ℕ) where
       (λ fails.
       let outside = out_of_range (integer_of file d) (suc (rank_of file d n)) fails in
       told_applies (refusal Why.ValueOutOfRange d.starts.seven.0) (rw (there, enough, present, fails) at e)
-      (rw starts (Spec.out-of-range-up-to {j = outside.0} about asks.1 at.2.of_three at.2.of_five at.2.of_six (eqb-true (present_of file d n) 1 present) (omega (arith, outside.1)) (rw (sym starts) outside.2)))))
+      (rw starts (Spec.out_of_range_up_to {j = outside.0} about asks.1 at.2.of_three at.2.of_five at.2.of_six (eqb-true (present_of file d n) 1 present) (omega (arith, outside.1)) (rw (sym starts) outside.2)))))
       (λ missing. clash_verdict (rw (there, enough, missing) at e))))
 
   told_value_of : {q : Question} {k n room m p : ℕ} → Names q k → AsksIn q n room → verdict file q ≡ refused m p → Applies file q m p
@@ -834,14 +847,14 @@ module _ (file : List ℕ) where
       let about : About file (picture k room) at.0 = record { k = k; names = draws; lies = at.1 } in
       let starts : d.starts.seven.0 ≡ at.0.starts.seven.0 = ap (λ (s : Starts). s.seven.0) at.2.of_starts in
       split (ltb room (picture_length (frame_of d.grid)))
-      (λ none. told_applies (refusal Why.NoRoom 0) (rw none at e) (Spec.no-room-for-picture about lends_octets at.2.of_three (ltb-true room (picture_length (frame_of d.grid)) none)))
+      (λ none. told_applies (refusal Why.NoRoom 0) (rw none at e) (Spec.no_room_for_picture about lends_octets at.2.of_three (ltb-true room (picture_length (frame_of d.grid)) none)))
       (λ enough.
       split (is_decodable file d)
       (λ all. clash_verdict (rw (enough, all) at e))
       (λ fails.
       let outside = out_of_range (integer_of file d) d.representation.n fails in
       told_applies (refusal Why.ValueOutOfRange d.starts.seven.0) (rw (enough, fails) at e)
-      (rw starts (Spec.out_of_range about all_greys at.2.of_five outside.1 (rw (sym starts) outside.2)))))
+      (rw starts (Spec.out_of_range_for_picture about lends_octets at.2.of_five outside.1 (rw (sym starts) outside.2)))))
 
   applies_of : {m p : ℕ} (q : Question) → verdict file q ≡ refused m p → Applies file q m p
   applies_of {m} {p} check e = by (Tiling.check file) refl e
@@ -896,12 +909,12 @@ module _ (file : List ℕ) where
 
   field_not_outside : (l : Located) → NotOutside (described_at file l)
   field_not_outside l =
-      at-section-1 file l NotOutside (λ _. other_refusal Why.BadIdentification (omega arith))
-      (λ i _. at-section-3 file l NotOutside i (λ _. other_refusal Why.BadGrid (omega arith))
-      (λ g _. at-section-4 file l NotOutside i g (λ _. other_refusal Why.BadProduct (omega arith))
-      (λ m _. at-section-5 file l NotOutside i g m (λ _. other_refusal Why.BadRepresentation (omega arith))
-      (λ r _. at-section-6 file l NotOutside i g m r (λ _. other_refusal Why.BadBitmap (omega arith))
-      (λ q _. at-section-7 file l NotOutside i g m r q (λ _. other_refusal Why.BadPacking (omega arith))
+      at_section_1 file l NotOutside (λ _. other_refusal Why.BadIdentification (omega arith))
+      (λ i _. at_section_3 file l NotOutside i (λ _. other_refusal Why.BadGrid (omega arith))
+      (λ g _. at_section_4 file l NotOutside i g (λ _. other_refusal Why.BadProduct (omega arith))
+      (λ m _. at_section_5 file l NotOutside i g m (λ _. other_refusal Why.BadRepresentation (omega arith))
+      (λ r _. at_section_6 file l NotOutside i g m r (λ _. other_refusal Why.BadBitmap (omega arith))
+      (λ q _. at_section_7 file l NotOutside i g m r q (λ _. other_refusal Why.BadPacking (omega arith))
       (λ _ _ p e. apart cc))))))
 
   pub describe_not_outside : (k : ℕ) → NotOutside (Describe.describe file k)

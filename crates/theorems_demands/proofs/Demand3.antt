@@ -42,5 +42,5 @@ pub demand_3 : (file : List ℕ) → Demand3 file
 demand_3 file =
     record {
       near = λ c n d answers decodes. decodes_near file c (left_behind file c) d decodes;
-      nearAlone = λ k n x d v said below told standard. present_near file d (k, said) ((told_alone file k n said below).value v told) standard;
+      near_alone = λ k n x d v said below told standard. present_near file d (k, said) ((told_alone file k n said below).value v told) standard;
     }

@@ -49,14 +49,14 @@ examples =
       first_twelve_bits = refl;
       next_twelve_bits = refl;
       second_differences = refl;
-      seven_and_aHalf = refl;
+      seven_and_a_half = refl;
       a_tenth = refl;
       after_eighty_four_hours = refl;
       first_and_third = refl;
       column1421 = λ g n p columns first last column l.
           let away : Away 1422 43060606 1421 l.east = rw (column, columns, first, last) at l.column in
           l.longitude ∙ rw (first, away_once {m = l.east} (omega arith) away away_of_lem);
-      sixPoints = (
+      six_points = (
         position_lies two_by_three 0,
         position_lies two_by_three 1,
         position_lies two_by_three 2,

@@ -101,10 +101,10 @@ no_impostor =
     record {
       refuses_every_file = λ c meets refuses. let r = refuses two_fields in no_counts (sym two_counted ∙ sym (meets two_fields) ∙ r.1);
       invents_the_count = λ c meets n same. let two : 2 ≡ n = same two_fields 1 2 (meets two_fields ∙ two_counted) in let one : 1 ≡ n = same one_field 1 1 (meets one_field ∙ one_counted) in omega arith;
-      returns-one-field = λ d meets same. fields_differ (sym (first_values d meets) ∙ same two_fields two_fields 0 1 0 4 4 zeros unmarked (first_answer d meets) (second_answer d meets) ∙ second_values d meets);
+      returns_one_field = λ d meets same. fields_differ (sym (first_values d meets) ∙ same two_fields two_fields 0 1 0 4 4 zeros unmarked (first_answer d meets) (second_answer d meets) ∙ second_values d meets);
       writes_nothing = λ d meets same. field_is_written (sym (first_values d meets) ∙ same two_fields 0 0 zeros unmarked);
       marks_nothing = λ d meets same. let mark : ◌≡◌ {A = ℕ} 1 0 = ap (λ (marks : List ℕ). get_or marks 0 0) (ap (λ (l : Left). l.runs.presence) (sym (first_left d meets)) ∙ same two_fields 0 0 zeros unmarked) in omega arith;
-      repeats-field-0 = λ d meets same. fields_differ (sym (first_values d meets) ∙ sym (same two_fields 1 0 4 zeros unmarked (second_answer d meets)) ∙ second_values d meets);
+      repeats_field_0 = λ d meets same. fields_differ (sym (first_values d meets) ∙ sym (same two_fields 1 0 4 zeros unmarked (second_answer d meets)) ∙ second_values d meets);
     }
   where
     no_counts : {m n : ℕ} {r : Refusal} → Checked.Counts m n ≡ Checked.Refused r → ⊥

@@ -60,7 +60,7 @@ pub record About (file : List ℕ) (q : Question) (l : Located) : Type 0 where
 -- What else a question asks. Of a point: the point, how many numbers tell of it, and for how many there is room; an answer that is handed back has room for its own.
 -- A place is two numbers, and is asked of grids of one template; a value is one, and is asked of any grid. Of all values: the start index and the lengths of the
 -- runs. Of a picture: how many octets there is room for. Of a description: how many numbers it needs, which is 53 on a grid in degrees and 60 on a Lambert grid, and
--- for how many there is room. All integers of a field are asked by decode and by a picture.
+-- for how many there is room.
 pub data AsksPoint : Question → (n needed room : ℕ) → Type 0 where
   in_degrees : {k n : ℕ} → AsksPoint (place k n) n 2 2
   in_degrees_into : {k n room : ℕ} → AsksPoint (place_into k n room) n 2 room
@@ -84,10 +84,6 @@ pub data Lends : Question → ℕ → ℕ → ℕ → Type 0 where
 
 pub data LendsOctets : Question → (room : ℕ) → Type 0 where
   lends_octets : {k room : ℕ} → LendsOctets (picture k room) room
-
-pub data AsksAll : Question → Type 0 where
-  all_values : {k start values presence : ℕ} → AsksAll (decode k start values presence)
-  all_greys : {k room : ℕ} → AsksAll (picture k room)
 
 pub data LendsNumbers : Question → Grid → (needed room : ℕ) → Type 0 where
   for_degrees : {k room : ℕ} {g : DegreeGrid} → LendsNumbers (describe_into k room) (Grid.Degrees g) 53 room
@@ -118,7 +114,7 @@ pub data Applies (file : List ℕ) (q : Question) : (number place : ℕ) → Typ
   section_1 : {l : Located} → About file q l → identification_of file l ≡ Identified.NotTaken → Applies file q 9 l.starts.one.0
   section_3 : {l : Located} → About file q l → grid_of file l ≡ Gridded.NotTaken → Applies file q 10 l.starts.three.0
   -- Section 4 is not taken, with the reference time of section 1.
-  section-4 :
+  section_4 :
       {l : Located} {i : Identification} →
       About file q l →
       identification_of file l ≡ Identified.As i →
@@ -127,7 +123,7 @@ pub data Applies (file : List ℕ) (q : Question) : (number place : ℕ) → Typ
   -- Section 5 is not taken.
   section_5 : {l : Located} → About file q l → representation_of file l ≡ Represented.NotTaken → Applies file q 12 l.starts.five.0
   -- Section 6 is not taken, with the points of section 3 and the N of section 5.
-  section-6 :
+  section_6 :
       {l : Located} {g : Grid} {r : Representation} →
       About file q l →
       grid_of file l ≡ Gridded.On g →
@@ -135,7 +131,7 @@ pub data Applies (file : List ℕ) (q : Question) : (number place : ℕ) → Typ
       presence_of file l (points_of g) r.n ≡ Marked.NotTaken →
       Applies file q 13 l.starts.six.0
   -- The group plan or the length of section 7 is not as section 5 says.
-  section-7 :
+  section_7 :
       {l : Located} {r : Representation} →
       About file q l →
       representation_of file l ≡ Represented.By r →
@@ -150,7 +146,7 @@ pub data Applies (file : List ℕ) (q : Question) : (number place : ℕ) → Typ
       ((start + points_of g ≤ values) × (start + points_of g ≤ presence) → ⊥) →
       Applies file q 15 0
   -- The run is too short for the picture: its lines, and a grey for each point.
-  no-room-for-picture :
+  no_room_for_picture :
       {l : Located} {g : Grid} {room : ℕ} →
       About file q l →
       LendsOctets q room →
@@ -158,7 +154,7 @@ pub data Applies (file : List ℕ) (q : Question) : (number place : ℕ) → Typ
       room < length (header (frame_of g)) + points_of g →
       Applies file q 15 0
   -- The run is too short for the numbers of a description, or for those that tell of a point.
-  no-room-for-numbers :
+  no_room_for_numbers :
       {l : Located} {g : Grid} {needed room : ℕ} →
       About file q l →
       grid_of file l ≡ Gridded.On g →
@@ -166,17 +162,26 @@ pub data Applies (file : List ℕ) (q : Question) : (number place : ℕ) → Typ
       room < needed →
       Applies file q 15 0
   no_room_for_point : {l : Located} {n needed room : ℕ} → About file q l → AsksPoint q n needed room → room < needed → Applies file q 15 0
-  -- One of the N integers X of a field that is decoded or drawn is below 0 or above 2,147,483,647.
+  -- One of the N integers X that decode rebuilds is below 0 or above 2,147,483,647.
   out_of_range :
-      {l : Located} {r : Representation} {m : ℕ} →
+      {l : Located} {r : Representation} {start values presence m : ℕ} →
       About file q l →
-      AsksAll q →
+      Lends q start values presence →
+      representation_of file l ≡ Represented.By r →
+      m < r.n →
+      Doubles.is_in_range (integer_at file l.starts.seven.0 r m) ≡ false →
+      Applies file q 16 l.starts.seven.0
+  -- One of the N integers X that a picture shows is so.
+  out_of_range_for_picture :
+      {l : Located} {r : Representation} {room m : ℕ} →
+      About file q l →
+      LendsOctets q room →
       representation_of file l ≡ Represented.By r →
       m < r.n →
       Doubles.is_in_range (integer_at file l.starts.seven.0 r m) ≡ false →
       Applies file q 16 l.starts.seven.0
   -- Point n is present, and one of the integers X(1) to X(m) is so, where X(m) is the point's own: as many points are present before it as integers come before X(m).
-  out-of-range-up-to :
+  out_of_range_up_to :
       {l : Located} {g : Grid} {r : Representation} {p : Presence} {n j : ℕ} →
       About file q l →
       AsksValue q n →
@@ -188,7 +193,7 @@ pub data Applies (file : List ℕ) (q : Question) : (number place : ℕ) → Typ
       Doubles.is_in_range (integer_at file l.starts.seven.0 r j) ≡ false →
       Applies file q 16 l.starts.seven.0
   -- The field has no point n.
-  no-such-point :
+  no_such_point :
       {l : Located} {g : Grid} {n needed room : ℕ} →
       About file q l →
       AsksPoint q n needed room →
@@ -196,7 +201,7 @@ pub data Applies (file : List ℕ) (q : Question) : (number place : ℕ) → Typ
       points_of g ≤ n →
       Applies file q 17 0
   -- The grid is of the other kind: the question is about grids of another template.
-  other-grid :
+  other_grid :
       {l : Located} {g : Grid} {template : ℕ} →
       About file q l →
       AsksOf q template →

@@ -32,7 +32,7 @@ AllNear file c left d =
 pub record Demand3 (file : List ℕ) : Type 0 where
   pub near : (c : Call) (n : ℕ) (d : Description) → answer_to file c ≡ Decoded.Points n → Decodes file c (left_behind file c) d → AllNear file c (left_behind file c) d
   -- So it is of a point that is told alone.
-  pub nearAlone :
+  pub near_alone :
       (k n x : ℕ) (d : Description) (v : Float) →
       describe file k ≡ Described.As d →
       n < points_of d.grid →

@@ -90,7 +90,7 @@ pub record Examples : Type 0 where
   -- Second differences: the integers of the section above.
   pub second_differences : example_integer 0 ∷ example_integer 1 ∷ example_integer 2 ∷ example_integer 3 ∷ [] ≡ pos 5 ∷ pos 7 ∷ pos 11 ∷ pos 15 ∷ []
   -- R 1.5, E 1, D 0 and X 3 make 7.5. The single 1.5 is 3FC00000, and the double 7.5 is 401E000000000000.
-  pub seven_and_aHalf : value_of 0x3fc0_0000 (plain 1) (plain 0) 3 ≡ of_bits binary64 0x401e_0000_0000_0000
+  pub seven_and_a_half : value_of 0x3fc0_0000 (plain 1) (plain 0) 3 ≡ of_bits binary64 0x401e_0000_0000_0000
   -- R 0, E 0, D 1 and X 1 make the double nearest to a tenth.
   pub a_tenth : to_bits binary64 (value_of 0 (plain 0) (plain 1) 1) ≡ 0x3fb9_9999_9999_999a
   -- 84 hours after noon of 15 May 2017 the 19th begins.
@@ -102,7 +102,7 @@ pub record Examples : Type 0 where
       (g : DegreeGrid) (n : ℕ) (p : Position) →
       g.frame.ni ≡ 1422 → g.first.longitude ≡ 116969697 → g.last.longitude ≡ 160030303 → column_of g.frame n ≡ 1421 → LiesAt g n p → p.longitude ≡ 160030303
   -- The six points of a grid, along its rows.
-  pub sixPoints :
+  pub six_points :
       LiesAt two_by_three 0 (lying false 1 359999999)
       × LiesAt two_by_three 1 (lying false 1 0)
       × LiesAt two_by_three 2 (lying false 0 359999999)

@@ -40,7 +40,7 @@ pub record NoImpostor : Type 0 where
   -- One that invents the field count: it is the same for all files that it takes.
   pub invents_the_count : (c : Checker) → MeetsCheck c → (n : ℕ) → ((file : List ℕ) (messages fields : ℕ) → c file ≡ Checked.Counts messages fields → fields ≡ n) → ⊥
   -- One that returns the same field each time, whatever the file and k are.
-  pub returns-one-field :
+  pub returns_one_field :
       (d : Decoder) → MeetsDecode d →
       ((file other : List ℕ) (k l start n m : ℕ) (values : List Float) (presence : List ℕ) →
       (d file k start values presence).answer ≡ Decoded.Points n → (d other l start values presence).answer ≡ Decoded.Points m →
@@ -49,6 +49,6 @@ pub record NoImpostor : Type 0 where
   pub writes_nothing : (d : Decoder) → MeetsDecode d → ((file : List ℕ) (k start : ℕ) (values : List Float) (presence : List ℕ) → (d file k start values presence).runs.values ≡ values) → ⊥
   pub marks_nothing : (d : Decoder) → MeetsDecode d → ((file : List ℕ) (k start : ℕ) (values : List Float) (presence : List ℕ) → (d file k start values presence).runs.presence ≡ presence) → ⊥
   -- One that decodes field 0 and repeats it for later k.
-  pub repeats-field-0 :
+  pub repeats_field_0 :
       (d : Decoder) → MeetsDecode d →
       ((file : List ℕ) (k start n : ℕ) (values : List Float) (presence : List ℕ) → (d file k start values presence).answer ≡ Decoded.Points n → (d file k start values presence).runs.values ≡ (d file 0 start values presence).runs.values) → ⊥

@@ -34,8 +34,8 @@ row_of_four =
     0x05 ∷ 0x16 ∷ 0x15 ∷ 0x00 ∷ 0x00 ∷ 0x00 ∷ 0x00 ∷ 0x00 ∷ []
 
 -- Section 3: 2 x 2 points of a Lambert grid, 5 km apart in a row and 4 km from row to row.
-abbrev four_on_aSheet : List ℕ
-four_on_aSheet =
+abbrev four_on_a_sheet : List ℕ
+four_on_a_sheet =
     0x00 ∷ 0x00 ∷ 0x00 ∷ 0x51 ∷ 0x03 ∷ 0x00 ∷ 0x00 ∷ 0x00 ∷ 0x00 ∷ 0x04 ∷ 0x00 ∷ 0x00 ∷ 0x00 ∷ 0x1e ∷ 0x01 ∷ 0x00 ∷
     0x00 ∷ 0x61 ∷ 0x36 ∷ 0xb8 ∷ 0xff ∷ 0xff ∷ 0xff ∷ 0xff ∷ 0xff ∷ 0xff ∷ 0xff ∷ 0xff ∷ 0xff ∷ 0xff ∷ 0x00 ∷ 0x00 ∷
     0x00 ∷ 0x02 ∷ 0x00 ∷ 0x00 ∷ 0x00 ∷ 0x02 ∷ 0x02 ∷ 0xa1 ∷ 0x7d ∷ 0x3d ∷ 0x06 ∷ 0x14 ∷ 0x87 ∷ 0xb6 ∷ 0x08 ∷ 0x01 ∷
@@ -108,11 +108,11 @@ two_fields = section0 0x01 0x14 ++ section1 ++ section3 ++ temperature4 ++ tempe
 unfoldable pub one_field : List ℕ
 one_field = section0 0x00 0xb7 ++ section1 ++ section3 ++ temperature4 ++ temperature5 ++ temperature6 ++ temperature7 ++ section8
 
-unfoldable pub field_in_aRow : List ℕ
-field_in_aRow = section0 0x00 0xb7 ++ section1 ++ row_of_four ++ temperature4 ++ temperature5 ++ temperature6 ++ temperature7 ++ section8
+unfoldable pub field_in_a_row : List ℕ
+field_in_a_row = section0 0x00 0xb7 ++ section1 ++ row_of_four ++ temperature4 ++ temperature5 ++ temperature6 ++ temperature7 ++ section8
 
-unfoldable pub field_on_aSheet : List ℕ
-field_on_aSheet = section0 0x00 0xc0 ++ section1 ++ four_on_aSheet ++ temperature4 ++ temperature5 ++ temperature6 ++ temperature7 ++ section8
+unfoldable pub field_on_a_sheet : List ℕ
+field_on_a_sheet = section0 0x00 0xc0 ++ section1 ++ four_on_a_sheet ++ temperature4 ++ temperature5 ++ temperature6 ++ temperature7 ++ section8
 
 unfoldable pub strayed_field : List ℕ
 strayed_field = section0 0x00 0xd4 ++ section1 ++ section3 ++ temperature4 ++ strayed5 ++ strayed6 ++ strayed7 ++ section8

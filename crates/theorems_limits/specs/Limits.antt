@@ -235,7 +235,7 @@ pub record SectionLimits : Type 0 where
   pub template8 : octets_interval 8 9 takes (8 ∷ []) refuses (0 ∷ 7 ∷ 9 ∷ 264 ∷ [])
   pub product6 : octets4 6 7 takes (0 ∷ []) refuses (1 ∷ 256 ∷ [])
   pub units : octets4 18 18 takes (0 ∷ 1 ∷ 2 ∷ []) refuses (3 ∷ 255 ∷ [])
-  pub minuteHourDay :
+  pub minute_hour_day :
       map (later reference 3) (0 ∷ 1 ∷ 2 ∷ [])
       ≡ Moment.At (clock 2017 5 15 12 33 45) ∷ Moment.At (clock 2017 5 15 15 30 45) ∷ Moment.At (clock 2017 5 18 12 30 45) ∷ []
   pub forecasts : (λ time. is_product (in_file (holding 19 22 time instant4)) start) takes (0 ∷ 2147483647 ∷ []) refuses (2147483648 ∷ [])
@@ -253,18 +253,18 @@ pub record SectionLimits : Type 0 where
   pub product49 : octets_interval 49 49 takes (1 ∷ []) refuses (0 ∷ 2 ∷ 3 ∷ [])
   -- What is read.
   pub read_instant : product_definition_at (in_file instant4) start reference ≡ sample_product three_hours_ahead sample_level Product.Instant
-  pub readLevelless :
+  pub read_levelless :
       product_definition_at (in_file (holding 24 28 0xff_ffff_ffff instant4)) start reference
       ≡ sample_product three_hours_ahead Level.Absent Product.Instant
-  pub readSum :
+  pub read_sum :
       product_definition_at (in_file interval4) start reference
       ≡ sample_product three_hours_ahead sample_level (Product.Interval five_hours_ahead Kind.Sum)
-  pub readMean :
+  pub read_mean :
       product_definition_at (in_file (holding 47 47 0 interval4)) start reference
       ≡ sample_product three_hours_ahead sample_level (Product.Interval five_hours_ahead Kind.Mean)
   -- All four octets of a forecast count, and all four of a length, in the unit that stands before them, whatever the time.
   pub forecast_octets : (from : Time) → product_definition_at four_octet_forecast start from ≡ defined_at four_octet_forecast start (later from 0x0102_0304 1)
-  pub lengthOctets :
+  pub length_octets :
       (from : Time)
       → interval_of four_octet_length start from Kind.Sum ≡ ending Kind.Sum (Reading.At five_hours_ahead) (later from 0x0102_0304 1)
   -- Section 5: length and template, R, E, D, bits; and what is read.
@@ -305,12 +305,12 @@ pub record SectionLimits : Type 0 where
   pub present255 : (λ n. octets_unmapped the_bitmap 9 n 6 6 255) takes (9 ∷ []) refuses (4 ∷ 8 ∷ 10 ∷ [])
   -- Which points are present.
   pub read_own : presence_at (in_file bitmap6) start Bitmap.Absent 9 4 ≡ Marked.As (Presence.Own (at start))
-  pub presentOwn :
+  pub present_own :
       map (present_at (in_file bitmap6) (Presence.Own (at start)) 9) (0 ∷ 1 ∷ 2 ∷ 3 ∷ 4 ∷ 5 ∷ 6 ∷ 7 ∷ 8 ∷ [])
       ≡ 1 ∷ 0 ∷ 1 ∷ 0 ∷ 0 ∷ 0 ∷ 0 ∷ 1 ∷ 1 ∷ []
   pub present_all : present_at [] Presence.All 9 8 ≡ 1
   pub present_before_all : map (present_before [] Presence.All 9) (0 ∷ 9 ∷ []) ≡ 0 ∷ 9 ∷ []
-  pub indicatorNumbers :
+  pub indicator_numbers :
       (indicator_of (Presence.Own (at start)) ≡ 0) × (indicator_of (Presence.Earlier (at start)) ≡ 254)
       × (indicator_of Presence.All ≡ 255)
   -- Section 7, simple packing: five octets and N x bits.

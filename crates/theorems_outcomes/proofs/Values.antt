@@ -52,11 +52,11 @@ values_group_unpack _ 𝓤 𝓛 _ _ _ _ _ _ _ _ _ _ =
     (λ i. record { x = kept.0 i; before = kept.1 i }, λ i. (tt, (tt, (tt, (alike p.1 q.1 i, (tt, tt)))))))
 
 -- What the recurrence adds and gives, each in one number of the machine.
-gain_determined : {gain other base lowered : ℕ} → Gains gain base lowered → Gains other base lowered → gain ≡ other
-gain_determined p q = omega (arith, p.2, p.3, q.2, q.3)
+gain_determined : {gain other base lowered : ℕ} → Gains gain base lowered × (gain < 2 ^ 64) → Gains other base lowered × (other < 2 ^ 64) → gain ≡ other
+gain_determined p q = omega (arith, p.0.2, p.1, q.0.2, q.1)
 
 pub values_group_gain_of : Determined values_group.gain_of.ended (λ _ _. values_group.gain_of.clauses)
-values_group_gain_of _ 𝓤 𝓛 _ _ _ _ _ _ _ _ _ _ = one 𝓤 (λ p q. (gain_determined p q, refl))
+values_group_gain_of _ 𝓤 𝓛 _ _ _ _ _ _ _ _ _ _ = two 𝓤 (λ p q. (gain_determined p q, refl))
 
 pub values_group_integer_behind : Determined values_group.integer_behind.ended (λ _ _. values_group.integer_behind.clauses)
 values_group_integer_behind _ 𝓤 𝓛 _ _ _ _ _ _ _ _ _ _ = one 𝓤 (λ p q. (alike p q, refl))

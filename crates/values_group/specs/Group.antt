@@ -64,7 +64,7 @@ integers_of run g from = integer_from run g from.x from.before
 
 -- What the recurrence adds to each packed number, where 2 ^ 64 counts as 0: the reference with what Zmin adds, less what Zmin takes away.
 abbrev pub Gains : (gain base lowered : ℕ) → Type 0
-Gains gain base lowered = (base ≤ 8589934592) × (lowered ≤ 4294967296) × ((gain + lowered) % 2 ^ 64 ≡ base) × (gain < 2 ^ 64)
+Gains gain base lowered = (base ≤ 8589934592) × (lowered ≤ 4294967296) × ((gain + lowered) % 2 ^ 64 ≡ base)
 
 -- What the recurrence gives behind two integers, worked out where 2 ^ 64 counts as 0: an integer below 0 is far too large.
 abbrev pub wrapped : (packed gain x before : ℕ) → ℕ

@@ -1,7 +1,7 @@
 // One group of complex packing (5.3): its integers X, judged in a first pass that writes nothing, and put into a lent block in a second one.
 #![tactic(auto)]
 
-ghost use Rattle.std.specs.Prelude.{◌≡◌, ◌+◌, ◌-◌, ◌*◌, ◌%◌, ◌≤◌, length};
+ghost use Rattle.std.specs.Prelude.{◌≡◌, ◌+◌, ◌-◌, ◌*◌, ◌%◌, ◌^◌, ◌<◌, ◌≤◌, length};
 ghost use Rattle.laws_rows.specs.Rows.{row, filled};
 ghost use Rattle.bits.specs.Fours.{Foured};
 ghost use Rattle.values_group.specs.declared.Worked.TheVariants as Worked;
@@ -51,7 +51,8 @@ fn behind(group: Group, done: u64) -> Group
 // What the recurrence adds to each packed number of the group, where 2 ^ 64 counts as 0.
 pub fn gain_of(group: Group) -> u64
     requires { (group.base ≤ 8589934592) × (group.lowered ≤ 4294967296) }
-    ensures { Gains result group.base group.lowered }
+    ensures gains { Gains result group.base group.lowered }
+    ensures fits { result < 2 ^ 64 }
 {
     std::num::wrapping_sub_u64(group.base, group.lowered)
 }

@@ -8,7 +8,7 @@ use lib.Signed.{lt_z}
 use mir.Syntax.{w64}
 use mir.Val.{to_z, of_z, SFits}
 use mir.ValLaws.{to_z-of_z}
-use Rattle.listing_file.proofs.Laws.{prints_unreadable, prints-listing}
+use Rattle.listing_file.proofs.Laws.{prints_unreadable, prints_listing}
 use Rattle.listing_file.proofs.print.Goals as goal
 
 -- The machine compares numbers with a sign by their bits.
@@ -22,4 +22,4 @@ pub slice_bounds-list-end : goal.slice_bounds-list-end
 slice_bounds-list-end c = sym (length-take-le _ _ c.requires.got_in_bounds)
 
 pub returns : goal.returns
-returns c = prints-listing c.requires.in_bounds (by_value _ c.ranges.again c.if-again-lt0.false) c.list-length.ensures
+returns c = prints_listing c.requires.in_bounds (by_value _ c.ranges.again c.if-again-lt0.false) c.list-length.ensures

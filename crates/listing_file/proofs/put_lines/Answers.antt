@@ -7,7 +7,7 @@ use native.Mathlib.Omega.{arith}
 use Rattle.laws_rows.specs.Rows.{Puts}
 use Rattle.laws_rows.proofs.Puts.{puts_none}
 use Rattle.listing_file.specs.Listing.{line_of, lines_of}
-use Rattle.text.proofs.Pieces.{Told, told-then, told_room, told_length}
+use Rattle.text.proofs.Pieces.{Told, told_then, told_room, told_length}
 use Rattle.listing_file.proofs.Laws.{line_short, lines_short}
 use Rattle.listing_file.proofs.put_lines.Goals.{At-loop-k, In-loop-k}
 use Rattle.listing_file.proofs.put_lines.Goals as goal
@@ -39,7 +39,7 @@ unfolding lines_of
 loop-k-preserved c =
     let l = c.loop-k in
     let a = c.args in
-    let more = told-then (line_of a.file.now l.k) 192 0 (told_left (goal.at.loop-k-preserved c).In-loop-k) (line_short _ _) c.put_line-end.ensures in
+    let more = told_then (line_of a.file.now l.k) 192 0 (told_left (goal.at.loop-k-preserved c).In-loop-k) (line_short _ _) c.put_line-end.ensures in
     (omega arith, rw add-one more.put)
 
 pub shape_of-run : goal.shape_of-run

@@ -9,7 +9,7 @@ use mir.Syntax.{w64}
 use mir.Facts.{to_z_pos}
 use Rattle.laws_rows.specs.Rows.{Puts}
 use Rattle.question_numbers.specs.Numbers.{time_numbers, grid_numbers, definition_numbers}
-use Rattle.question_numbers.proofs.Laws.{puts-four, grid_length, definition_length}
+use Rattle.question_numbers.proofs.Laws.{puts_four, grid_length, definition_length}
 use Rattle.question_numbers.proofs.put_field.Goals as goal
 
 pub put_definition-requires : goal.put_definition-requires
@@ -32,7 +32,7 @@ put_definition-requires c = (
 pub returns : goal.returns
 returns c =
     let d = c.args.description in
-    puts-four c.args.run.now 0
+    puts_four c.args.run.now 0
     (map pos (d.discipline ∷ d.identification.status ∷ [])) (time_numbers d.identification.reference) (grid_numbers d.grid) (definition_numbers d.definition)
     (omega (arith, c.requires, grid_length d.grid, definition_length d.definition))
     (subst (λ (piece : List ℤ). Puts c.args.run.now 0 piece c.put-reference.new.run c.put-reference.result) (λ i. to_z_pos w64 {n = d.discipline} (search rules) i ∷ to_z_pos w64 {n = d.identification.status} (search rules) i ∷ []) c.put-reference.ensures)

@@ -9,7 +9,7 @@ use mir.Facts.{to_z-of_z}
 use Rattle.laws_rows.specs.Rows.{Puts}
 use Rattle.section_6.specs.Presence.{indicator_of}
 use Rattle.question_numbers.specs.Numbers.{field_numbers, representation_numbers, start_numbers}
-use Rattle.question_numbers.proofs.Laws.{puts-four, field_length}
+use Rattle.question_numbers.proofs.Laws.{puts_four, field_length}
 use Rattle.question_numbers.proofs.put_shared.Goals as goal
 
 pub put-presence-requires : goal.put-presence-requires
@@ -56,7 +56,7 @@ pub returns : goal.returns
 returns c =
     let d = c.args.description in
     let indicator = c.indicator_of in
-    puts-four c.args.run.now 0
+    puts_four c.args.run.now 0
     (field_numbers d) (representation_numbers d.representation) (pos (indicator_of d.presence) ∷ []) (start_numbers d.starts)
     (omega (arith, c.requires, field_length d))
     c.put_field-representation.ensures

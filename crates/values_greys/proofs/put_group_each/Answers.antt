@@ -61,7 +61,7 @@ next_kept c =
     let sizes_left : (Limits (behind c.args.group c.args.from) c.args.latest.x c.args.latest.before) = behind_limits c.args.section.now c.args.group c.args.from c.requires.limits.0 (omega (arith, c.requires.limits.1, c.requires.limits.2)) in
     let l = c.loop-i in
     let g = c.gain_of-gain in
-    let all = tested_kept c.args.section.now (behind c.args.group c.args.from) g.result (sizes_left) g.ensures c.requires.group_kept in
+    let all = tested_kept c.args.section.now (behind c.args.group c.args.from) g.result (sizes_left) g.ensures.gains c.requires.group_kept in
     let kept = all (l.i - c.args.from + 1) (omega (arith, l.invariant.0, l.invariant.2, c.loop-i-test.true)) in
     reached_as (one_kept l.invariant.3 c.take-taken.ensures.0 c.integer_behind-one.ensures kept) (omega (arith, l.invariant.0)) c.take-taken.ensures.1 refl
 
@@ -73,12 +73,12 @@ own : (c : After-element) →
     course_of a.section.now (behind a.group a.from) c.gain_of-gain.result a.latest.x a.latest.before)) (l.i - a.from)) × (ScaledTo a.scale × (c.element.result ≤ a.scale.largest))
 own c =
     let sizes_left : (Limits (behind c.args.group c.args.from) c.args.latest.x c.args.latest.before) = behind_limits c.args.section.now c.args.group c.args.from c.requires.limits.0 (omega (arith, c.requires.limits.1, c.requires.limits.2)) in
-    let next_kept : (let l = c.loop-i in let a = c.args in Reached ((let a = c.args in course_of a.section.now (behind a.group a.from) c.gain_of-gain.result a.latest.x a.latest.before)) (l.i + 1 - a.from) c.take-taken.result.next.0 (Worked.Kept c.integer_behind-one.result l.x)) = let sizes_left : (Limits (behind c.args.group c.args.from) c.args.latest.x c.args.latest.before) = behind_limits c.args.section.now c.args.group c.args.from c.requires.limits.0 (omega (arith, c.requires.limits.1, c.requires.limits.2)) in let l = c.loop-i in let g = c.gain_of-gain in let all = tested_kept c.args.section.now (behind c.args.group c.args.from) g.result (sizes_left) g.ensures c.requires.group_kept in let kept = all (l.i - c.args.from + 1) (omega (arith, l.invariant.0, l.invariant.2, c.loop-i-test.true)) in reached_as (one_kept l.invariant.3 c.take-taken.ensures.0 c.integer_behind-one.ensures kept) (omega (arith, l.invariant.0)) c.take-taken.ensures.1 refl in
+    let next_kept : (let l = c.loop-i in let a = c.args in Reached ((let a = c.args in course_of a.section.now (behind a.group a.from) c.gain_of-gain.result a.latest.x a.latest.before)) (l.i + 1 - a.from) c.take-taken.result.next.0 (Worked.Kept c.integer_behind-one.result l.x)) = let sizes_left : (Limits (behind c.args.group c.args.from) c.args.latest.x c.args.latest.before) = behind_limits c.args.section.now c.args.group c.args.from c.requires.limits.0 (omega (arith, c.requires.limits.1, c.requires.limits.2)) in let l = c.loop-i in let g = c.gain_of-gain in let all = tested_kept c.args.section.now (behind c.args.group c.args.from) g.result (sizes_left) g.ensures.gains c.requires.group_kept in let kept = all (l.i - c.args.from + 1) (omega (arith, l.invariant.0, l.invariant.2, c.loop-i-test.true)) in reached_as (one_kept l.invariant.3 c.take-taken.ensures.0 c.integer_behind-one.ensures kept) (omega (arith, l.invariant.0)) c.take-taken.ensures.1 refl in
     let l = c.loop-i in
     let g = c.gain_of-gain in
     let a = c.args in
     let m : ℕ = l.i - a.from in
-    element_own a.section.now (behind a.group a.from) g.result (sizes_left) g.ensures a.scale c.requires.scaled_to m
+    element_own a.section.now (behind a.group a.from) g.result (sizes_left) g.ensures.gains a.scale c.requires.scaled_to m
     (omega (arith, l.invariant.0, l.invariant.2, c.loop-i-test.true)) c.element.ensures (last_counted m (omega (arith, l.invariant.0)) (next_kept))
 
 pub grey_of-requires : goal.grey_of-requires
@@ -106,4 +106,4 @@ returns c =
     let a = c.args in
     let left = behind a.group a.from in
     let n : ℕ = length a.greys.now - a.from in
-    let all : l.i - a.from ≡ n = omega (arith, l.invariant.1, l.invariant.2, c.loop-i-test.false) in record { group_goes = sym (reached_worked a.section.now left g.result (sizes_left (goal.at.returns c).Start) g.ensures l.invariant.3 all); greys_after = greys_own a.section.now left g.result (sizes_left (goal.at.returns c).Start) g.ensures a.scale (λ j. j - a.from) a.from n a.greys.now l.invariant.4 all }
+    let all : l.i - a.from ≡ n = omega (arith, l.invariant.1, l.invariant.2, c.loop-i-test.false) in record { group_goes = sym (reached_worked a.section.now left g.result (sizes_left (goal.at.returns c).Start) g.ensures.gains l.invariant.3 all); greys_after = greys_own a.section.now left g.result (sizes_left (goal.at.returns c).Start) g.ensures.gains a.scale (λ j. j - a.from) a.from n a.greys.now l.invariant.4 all }

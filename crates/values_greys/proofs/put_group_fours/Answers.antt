@@ -56,7 +56,7 @@ four c =
     let turn : (c.loop-i.i + 4 ≤ 4 * c.args.fours) = omega (arith, c.loop-i-test.true, c.loop-i.invariant.1) in
     let l = c.loop-i in
     let g = c.gain_of-gain in
-    let kept = tested_kept c.args.section.now c.args.group g.result c.requires.limits.0 g.ensures c.requires.group_kept in
+    let kept = tested_kept c.args.section.now c.args.group g.result c.requires.limits.0 g.ensures.gains c.requires.group_kept in
     four_kept c.four_at-taken.ensures l.i l.invariant.5 (λ k h. kept k (omega (arith, h, turn)))
     c.integer_behind-one.ensures c.integer_behind-two.ensures c.integer_behind-three.ensures c.integer_behind-last.ensures
 
@@ -68,7 +68,7 @@ own : {integer element : ℕ} (c : After-integer_behind-last) (m : ℕ) →
 own c m h =
     let turn : (c.loop-i.i + 4 ≤ 4 * c.args.fours) = omega (arith, c.loop-i-test.true, c.loop-i.invariant.1) in
     let g = c.gain_of-gain in
-    element_own c.args.section.now c.args.group g.result c.requires.limits.0 g.ensures c.args.scale c.requires.scaled_to m (omega (arith, h, turn))
+    element_own c.args.section.now c.args.group g.result c.requires.limits.0 g.ensures.gains c.args.scale c.requires.scaled_to m (omega (arith, h, turn))
 
 pub grey_of-requires : goal.grey_of-requires
 grey_of-requires c =
@@ -127,4 +127,4 @@ returns c =
     let l = c.loop-i in
     let g = c.gain_of-gain in
     let a = c.args in
-    let all : l.i ≡ 4 * a.fours = omega (arith, l.invariant.0, c.loop-i-test.false) in record { group_goes = sym (reached_worked a.section.now a.group g.result c.requires.limits.0 g.ensures l.invariant.5 all); greys_after = greys_own a.section.now a.group g.result c.requires.limits.0 g.ensures a.scale (λ j. j) 0 (4 * a.fours) a.greys.now l.invariant.6 all }
+    let all : l.i ≡ 4 * a.fours = omega (arith, l.invariant.0, c.loop-i-test.false) in record { group_goes = sym (reached_worked a.section.now a.group g.result c.requires.limits.0 g.ensures.gains l.invariant.5 all); greys_after = greys_own a.section.now a.group g.result c.requires.limits.0 g.ensures.gains a.scale (λ j. j) 0 (4 * a.fours) a.greys.now l.invariant.6 all }

@@ -39,7 +39,7 @@ pub returns-in_default : goal.returns-in_default
 returns-in_default c =
     let l = c.loop-done in
     let g = c.gain_of-gain in
-    reached_out c.args.section.now (behind c.args.group c.args.from) g.result (sizes_left (goal.at.returns-in_default c).Start) g.ensures
+    reached_out c.args.section.now (behind c.args.group c.args.from) g.result (sizes_left (goal.at.returns-in_default c).Start) g.ensures.gains
     (one_reached l.invariant.2 c.take-taken.ensures.0)
     (sym c.judge_next.ensures ∙ c.in_default.is) (omega (arith, c.loop-done-test.true, l.invariant.0))
 
@@ -56,5 +56,5 @@ pub returns : goal.returns
 returns c =
     let l = c.loop-done in
     let g = c.gain_of-gain in
-    reached_worked c.args.section.now (behind c.args.group c.args.from) g.result (sizes_left (goal.at.returns c).Start) g.ensures
+    reached_worked c.args.section.now (behind c.args.group c.args.from) g.result (sizes_left (goal.at.returns c).Start) g.ensures.gains
     l.invariant.2 (omega (arith, l.invariant.1, c.loop-done-test.false))

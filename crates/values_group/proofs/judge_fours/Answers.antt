@@ -34,7 +34,7 @@ worked : (c : After-loop-done) →
 worked c =
     let l = c.loop-done in
     let g = c.gain_of-gain in
-    reached_worked c.args.section.now c.args.group g.result c.requires.0 g.ensures l.invariant.1 (omega (arith, l.invariant.0, c.loop-done-test.false))
+    reached_worked c.args.section.now c.args.group g.result c.requires.0 g.ensures.gains l.invariant.1 (omega (arith, l.invariant.0, c.loop-done-test.false))
 
 pub returns-then-seen-gt2147483647 : goal.returns-then-seen-gt2147483647
 returns-then-seen-gt2147483647 c =

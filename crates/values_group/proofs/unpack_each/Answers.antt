@@ -40,7 +40,7 @@ loop-i-preserved c =
     let l = c.loop-i in
     let g = c.gain_of-gain in
     let here : l.i + 1 ≤ length c.args.block.now = omega (arith, l.invariant.2, c.loop-i-test.true) in
-    let all = tested_kept c.args.section.now (behind c.args.group c.args.from) g.result (sizes_left (goal.at.loop-i-preserved c).Start) g.ensures c.requires.group_kept in
+    let all = tested_kept c.args.section.now (behind c.args.group c.args.from) g.result (sizes_left (goal.at.loop-i-preserved c).Start) g.ensures.gains c.requires.group_kept in
     let kept = all (l.i - c.args.from + 1) (omega (arith, l.invariant.0, here)) in
     let held = one_held l.i l.invariant.3 (omega (arith, l.invariant.0)) refl c.take-taken.ensures.0 c.integer_behind-one.ensures kept c.element.ensures in
     (omega (arith, l.invariant.0), here, held_length held, held_as held (omega (arith, l.invariant.0)) c.take-taken.ensures.1)
@@ -53,4 +53,4 @@ returns c =
     let l = c.loop-i in
     let g = c.gain_of-gain in
     let left = behind c.args.group c.args.from in
-    let all : l.i - c.args.from ≡ length c.args.block.now - c.args.from = omega (arith, l.invariant.1, l.invariant.2, c.loop-i-test.false) in record { group_goes = sym (reached_worked c.args.section.now left g.result (sizes_left (goal.at.returns c).Start) g.ensures l.invariant.3.reached all); block_after = held_integers c.args.section.now left g.result (sizes_left (goal.at.returns c).Start) g.ensures l.invariant.3 all }
+    let all : l.i - c.args.from ≡ length c.args.block.now - c.args.from = omega (arith, l.invariant.1, l.invariant.2, c.loop-i-test.false) in record { group_goes = sym (reached_worked c.args.section.now left g.result (sizes_left (goal.at.returns c).Start) g.ensures.gains l.invariant.3.reached all); block_after = held_integers c.args.section.now left g.result (sizes_left (goal.at.returns c).Start) g.ensures.gains l.invariant.3 all }

@@ -44,7 +44,7 @@ pub loop-i-preserved : goal.loop-i-preserved
 loop-i-preserved c =
     let l = c.loop-i in
     let g = c.gain_of-gain in
-    let kept = tested_kept c.args.section.now c.args.group g.result c.requires.limits.0 g.ensures c.requires.group_kept in
+    let kept = tested_kept c.args.section.now c.args.group g.result c.requires.limits.0 g.ensures.gains c.requires.group_kept in
     let held =
     four_held c.four_at-taken.ensures l.i l.invariant.5 (λ k h. kept k (omega (arith, h, turn (goal.at.loop-i-preserved c).In-loop-i)))
     c.integer_behind-one.ensures c.integer_behind-two.ensures c.integer_behind-three.ensures c.integer_behind-last.ensures
@@ -58,4 +58,4 @@ pub returns : goal.returns
 returns c =
     let l = c.loop-i in
     let g = c.gain_of-gain in
-    let all : l.i ≡ 4 * c.args.fours = omega (arith, l.invariant.0, c.loop-i-test.false) in record { group_goes = sym (reached_worked c.args.section.now c.args.group g.result c.requires.limits.0 g.ensures l.invariant.5.reached all); block_after = held_integers c.args.section.now c.args.group g.result c.requires.limits.0 g.ensures l.invariant.5 all }
+    let all : l.i ≡ 4 * c.args.fours = omega (arith, l.invariant.0, c.loop-i-test.false) in record { group_goes = sym (reached_worked c.args.section.now c.args.group g.result c.requires.limits.0 g.ensures.gains l.invariant.5.reached all); block_after = held_integers c.args.section.now c.args.group g.result c.requires.limits.0 g.ensures.gains l.invariant.5 all }

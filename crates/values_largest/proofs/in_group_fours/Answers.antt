@@ -31,10 +31,10 @@ pub returns-then-largest-gt2147483647 : goal.returns-then-largest-gt2147483647
 returns-then-largest-gt2147483647 c =
     let l = c.loop-done in
     let g = c.gain_of-gain in
-    looked_out c.args.section.now c.args.group c.requires.0 g.ensures l.invariant.0 (omega (arith, l.invariant.1, c.loop-done-test.false)) c.if-largest-gt2147483647.true
+    looked_out c.args.section.now c.args.group c.requires.0 g.ensures.gains l.invariant.0 (omega (arith, l.invariant.1, c.loop-done-test.false)) c.if-largest-gt2147483647.true
 
 pub returns : goal.returns
 returns c =
     let l = c.loop-done in
     let g = c.gain_of-gain in
-    looked_kept c.args.section.now c.args.group c.requires.0 g.ensures l.invariant.0 (omega (arith, l.invariant.1, c.loop-done-test.false)) c.if-largest-gt2147483647.false
+    looked_kept c.args.section.now c.args.group c.requires.0 g.ensures.gains l.invariant.0 (omega (arith, l.invariant.1, c.loop-done-test.false)) c.if-largest-gt2147483647.false
