@@ -1,4 +1,5 @@
 -- The contracts about the values of a field leave nothing open: neither where writing ends, nor what the lent runs hold afterwards.
+use Prim.Native.Nat.{◌^◌, ◌<◌}
 use mathlib.Core.Path.{◌≡◌, refl}
 use Prim.Native.Nat.{ℕ}
 use native.Mathlib.Omega.{arith}
