@@ -1,4 +1,4 @@
-// What C calls: numbers and lent slices go in, and one number of 64 bits comes out.
+// What C is given: numbers and lent slices go in, and one number of 64 bits comes out. The crate skeptolyr_c exports these functions to C.
 #![tactic(auto)]
 
 ghost use Rattle.std.specs.Prelude.{◌≡◌, length};
@@ -16,8 +16,7 @@ use question_point::Pointed;
 use tiling::Checked;
 
 // Checks a file: messages x 2^32 + fields, or 2^63 + number x 2^32 + place.
-#[unsafe(no_mangle)]
-pub extern "C" fn skeptolyr_check(file: &[u8]) -> u64
+pub fn skeptolyr_check(file: &[u8]) -> u64
     ensures { result ≡ check_code (check file.now) }
 {
     match tiling::check(file) {
@@ -27,8 +26,7 @@ pub extern "C" fn skeptolyr_check(file: &[u8]) -> u64
 }
 
 // Decodes field `k` into both runs, from `start` on: the point count, or 2^63 + number x 2^32 + place.
-#[unsafe(no_mangle)]
-pub extern "C" fn skeptolyr_decode(
+pub fn skeptolyr_decode(
     file: &[u8],
     k: usize,
     start: usize,
@@ -46,8 +44,7 @@ pub extern "C" fn skeptolyr_decode(
 }
 
 // Describes field `k`: puts its numbers at the start of the run and answers how many they are, or 2^63 + number x 2^32 + place.
-#[unsafe(no_mangle)]
-pub extern "C" fn skeptolyr_describe(file: &[u8], k: usize, numbers: &mut [i64]) -> u64
+pub fn skeptolyr_describe(file: &[u8], k: usize, numbers: &mut [i64]) -> u64
     ensures value { result ≡ numbers_code (described_for file.now k numbers.old) }
     ensures numbers_after { numbers.new ≡ numbers_left numbers.old (described_for file.now k numbers.old) }
 {
@@ -60,8 +57,7 @@ pub extern "C" fn skeptolyr_describe(file: &[u8], k: usize, numbers: &mut [i64])
 }
 
 // Places point `n` of field `k`: puts its latitude and its longitude at the start of the run and answers 2, or 2^63 + number x 2^32 + place.
-#[unsafe(no_mangle)]
-pub extern "C" fn skeptolyr_place(file: &[u8], k: usize, n: usize, position: &mut [i64]) -> u64
+pub fn skeptolyr_place(file: &[u8], k: usize, n: usize, position: &mut [i64]) -> u64
     ensures value { result ≡ numbers_code (placed_for file.now k n position.old) }
     ensures position_after { position.new ≡ numbers_left position.old (placed_for file.now k n position.old) }
 {
@@ -75,8 +71,7 @@ pub extern "C" fn skeptolyr_place(file: &[u8], k: usize, n: usize, position: &mu
 }
 
 // Places point `n` of field `k` on the sheet: puts how far it lies to the right and down at the start of the run and answers 2, or 2^63 + number x 2^32 + place.
-#[unsafe(no_mangle)]
-pub extern "C" fn skeptolyr_sheet(file: &[u8], k: usize, n: usize, place: &mut [i64]) -> u64
+pub fn skeptolyr_sheet(file: &[u8], k: usize, n: usize, place: &mut [i64]) -> u64
     ensures value { result ≡ numbers_code (sheet_for file.now k n place.old) }
     ensures place_after { place.new ≡ numbers_left place.old (sheet_for file.now k n place.old) }
 {
@@ -91,8 +86,7 @@ pub extern "C" fn skeptolyr_sheet(file: &[u8], k: usize, n: usize, place: &mut [
 
 // Tells the value of point `n` of field `k`: puts it into the run's first element and answers 1, or puts +0 there and answers 0 where the point is missing, or
 // answers 2^63 + number x 2^32 + place.
-#[unsafe(no_mangle)]
-pub extern "C" fn skeptolyr_point(file: &[u8], k: usize, n: usize, value: &mut [f64]) -> u64
+pub fn skeptolyr_point(file: &[u8], k: usize, n: usize, value: &mut [f64]) -> u64
     ensures value { result ≡ point_code (point_into file.now k n (length value.old)) }
     ensures value_after { value.new ≡ point_left value.old (point_into file.now k n (length value.old)) }
 {
@@ -110,8 +104,7 @@ pub extern "C" fn skeptolyr_point(file: &[u8], k: usize, n: usize, value: &mut [
 }
 
 // Draws field `k`: puts its picture at the start of the run and answers how many octets that is, or 2^63 + number x 2^32 + place.
-#[unsafe(no_mangle)]
-pub extern "C" fn skeptolyr_picture(file: &[u8], k: usize, picture: &mut [u8]) -> u64
+pub fn skeptolyr_picture(file: &[u8], k: usize, picture: &mut [u8]) -> u64
     ensures value { result ≡ picture_code (pictured file.now k (length picture.old)) }
     ensures picture_after { picture.new ≡ run_left file.now k picture.old }
 {
