@@ -11,7 +11,7 @@ import sys
 from bench import listing
 from samples import shapes
 from tests.help import grib
-from tools import TOP, debian
+from tools import TOP, built, debian
 from tools.archive import FLAGS
 
 COMPILER = ['gcc', *FLAGS, '-O3']
@@ -35,12 +35,10 @@ def say(what):
 
 # ---- programs
 
-def native_archive():
-    """The archive, as code for this machine."""
+def own_archive():
+    """The archive that users link."""
     say('proving and compiling skeptolyr')
-    archive = os.path.join(TOP, 'target', 'libskeptolyr.native.a')
-    subprocess.run([sys.executable, '-m', 'tools.native', 'skeptolyr', archive], cwd=TOP, check=True)
-    return archive
+    return built.library('skeptolyr')
 
 
 def program(name, archive, *more):
@@ -173,7 +171,7 @@ def tell_memory(stack, archive, files):
 
 
 def main():
-    archive = sys.argv[1] if len(sys.argv) > 1 else native_archive()
+    archive = sys.argv[1] if len(sys.argv) > 1 else own_archive()
     theirs = peers()
     plain = os.path.join(TOP, 'bench', 'plain.c')
     decode, point, picture = program('decode', archive, plain, *theirs), program('point', archive, *theirs), program('picture', archive, plain)

@@ -13,7 +13,7 @@ import time
 
 from samples import shapes
 from tests.help import grib
-from tools import TOP, archive, debian
+from tools import TOP, archive, built, debian
 
 ROUNDS = 7
 COUNTS = (100, 1000, 8000)
@@ -118,9 +118,7 @@ def tell(code):
 
 
 def main():
-    code = os.path.join(TOP, 'target', 'libskeptolyr.listing.a')
-    subprocess.run([sys.executable, '-m', 'tools.native', 'skeptolyr', code], cwd=TOP, check=True)
-    tell(code)
+    tell(built.library('skeptolyr'))
 
 
 if __name__ == '__main__':

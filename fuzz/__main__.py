@@ -15,7 +15,7 @@ import tempfile
 import time
 
 from tests.help.faulty import FAULTS as FAULTY, RENAMED
-from tools import TOP, debian, module
+from tools import TOP, debian, kit, module
 
 WORK = os.path.join(TOP, 'target', 'fuzz')
 SEEDS, CORPUS, FAULTS, LOG = (os.path.join(WORK, name) for name in ('seeds', 'corpus', 'faults', 'log'))
@@ -234,7 +234,7 @@ def build_library():
     text, code = os.path.join(WORK, 'skeptolyr.ll'), os.path.join(WORK, 'skeptolyr.o')
     with open(module.text('skeptolyr')) as plain, open(text, 'w') as lines:
         lines.write(with_checks(plain.read()))
-    module.run(module.tool('clang'), '--target=' + module.TRIPLE, '-O0', '-fPIC', '-fno-omit-frame-pointer', '-fsanitize=fuzzer-no-link,address',
+    kit.run(kit.tool('clang'), '--target=' + kit.TRIPLES['x86_64'], '-O0', '-fPIC', '-fno-omit-frame-pointer', '-fsanitize=fuzzer-no-link,address',
                '-fno-sanitize-ignorelist', '-Wno-override-module', '-x', 'ir', '-c', text, '-o', code)
     return code
 
@@ -243,9 +243,9 @@ def build_reference():
     """The independent decoder, as C calls it. Where it panics, it aborts."""
     say('compiling the independent decoder')
     flags = ['rustc', '--edition', '2021', '-O', '-C', 'overflow-checks=on', '-C', 'panic=abort', '--out-dir', WORK]
-    module.run(*flags, '--crate-type', 'rlib', '--crate-name', 'reference', REFERENCE)
+    kit.run(*flags, '--crate-type', 'rlib', '--crate-name', 'reference', REFERENCE)
     extern = 'reference=' + os.path.join(WORK, 'libreference.rlib')
-    module.run(*flags, '--crate-type', 'staticlib', '--crate-name', 'shim', '--extern', extern, os.path.join(TOP, 'fuzz', 'shim.rs'))
+    kit.run(*flags, '--crate-type', 'staticlib', '--crate-name', 'shim', '--extern', extern, os.path.join(TOP, 'fuzz', 'shim.rs'))
     return os.path.join(WORK, 'libshim.a')
 
 
@@ -255,8 +255,8 @@ def build_target(name, libraries, sources):
     objects, out = [], os.path.join(WORK, name)
     for source, own in sources:
         objects.append(os.path.join(WORK, '%s-%s.o' % (name, os.path.basename(source))))
-        module.run(*compiler, *own, '-c', os.path.join(TOP, source + '.c'), '-o', objects[-1])
-    module.run('clang', '-fsanitize=fuzzer,address', *objects, *libraries, '-lpthread', '-ldl', '-lm', '-o', out)
+        kit.run(*compiler, *own, '-c', os.path.join(TOP, source + '.c'), '-o', objects[-1])
+    kit.run('clang', '-fsanitize=fuzzer,address', *objects, *libraries, '-lpthread', '-ldl', '-lm', '-o', out)
     return out
 
 
@@ -264,7 +264,7 @@ def build(is_faulty):
     install()
     os.makedirs(WORK, exist_ok=True)
     libraries = [build_library(), build_reference()]
-    module.run(sys.executable, '-m', 'fuzz.seeds', SEEDS)
+    kit.run(sys.executable, '-m', 'fuzz.seeds', SEEDS)
     if not is_faulty:
         return build_target('target', libraries, [('fuzz/target', []), ('fuzz/mutator', [])])
     return build_target('faulty', libraries, [('fuzz/target', RENAMED), ('fuzz/mutator', []), ('tests/help/faulty', [])])

@@ -33,16 +33,20 @@ FAILING = {
     'failing': ('import sys; print("1 passed, 1 failed"); sys.exit(1)', 1, '1 passed, 1 failed'),
     'hiding': ('print("skipped: a, because b"); print("2 passed, 0 failed")', 2, 'it has 3 tests'),
 }
+# What `rt ci` ends in where all is well.
+RT_IS_OK = 'rt: ok; handles allowed: none; must-fail edits: 1 refused%s; every proof and must-fail edit was done in this run'
+RT_IS_GREEN = 'echo "%s"; echo "2 passed, 0 failed"' % (RT_IS_OK % '')
 
 
 class Tree:
     """A tree with the gate in it, a crate with one edit, a command rt, and suites that are made up."""
 
-    def __init__(self, folder, suites, rt='echo "2 passed, 0 failed"', setup='exit 0', shared=()):
+    def __init__(self, folder, suites, rt=RT_IS_GREEN, setup='exit 0', shared=()):
         self.folder = folder
-        for name in ('test', 'gate.py', '__init__.py'):
+        for name in ('test', 'gate.py', 'built.py', 'kit.py', '__init__.py'):
             os.makedirs(os.path.join(folder, 'tools'), exist_ok=True)
             shutil.copy(os.path.join(TOP, 'tools', name), os.path.join(folder, 'tools', name))
+        self.write('crates.txt', 'one:\n')
         self.write('crates/one/must-fail/wrong.edit', '')
         self.write('tests/__init__.py', '')
         shutil.copy(os.path.join(TOP, 'tests', 'suites.py'), os.path.join(folder, 'tests', 'suites.py'))
@@ -116,8 +120,11 @@ def red(folder):
 
 
 def rt_is_counted(folder):
-    """rt ci with fewer tests than there are crates and edits in the tree fails, and so does one that says nothing, or ends badly."""
-    for name, rt, last in (('fewer', 'echo "1 passed, 0 failed"', 3), ('silent', 'exit 0', 2), ('quitting', 'echo "2 passed, 0 failed"; exit 2', 4)):
+    """rt ci with fewer tests than there are crates and edits in the tree fails, and so does one that says nothing, ends badly, or could not try an edit."""
+    ways = {
+        'fewer': (RT_IS_GREEN.replace('2 passed', '1 passed'), 3), 'silent': ('exit 0', 2), 'quitting': (RT_IS_GREEN + '; exit 2', 4),
+        'bad': (RT_IS_GREEN.replace('1 refused', '1 refused, 1 bad'), 4), 'unsaid': ('echo "2 passed, 0 failed"', 4)}
+    for name, (rt, last) in ways.items():
         yield from Tree(os.path.join(folder, name), {'one': WELL}, rt).faults(['nothing was skipped', '%d passed, 1 failed' % last], 1)
 
 
@@ -207,7 +214,7 @@ def interrupted(folder):
 
 # A command rt that proves for ever, in a process of its own whose number it tells in the file `proving`.
 PROVING = '''
-[ "$1" = check ] || exit 0
+[ "$1" = lib ] || exit 0
 sleep 1000 &
 echo $! >"$(dirname "$0")/proving.part"
 mv "$(dirname "$0")/proving.part" "$(dirname "$0")/proving"
@@ -218,9 +225,10 @@ wait
 def sample_is_interrupted(folder):
     """Ctrl-C while tools/sample proves ends it and what it has started, and it says so in one line and no more."""
     tree, told = Tree(folder, {}, rt=PROVING), os.path.join(folder, 'bin', 'proving')
-    for name in ('sample', 'archive.py', 'built.py', 'module.py'):
+    for name in ('sample', 'archive.py'):
         shutil.copy(os.path.join(TOP, 'tools', name), os.path.join(folder, 'tools', name))
-    tree.write('crates.txt', 'listing: skeptolyr\nskeptolyr:\n')
+    tree.write('crates.txt', 'listing: skeptolyr\nskeptolyr:\nskeptolyr_c staticlib: skeptolyr\n')
+    tree.write('crates/skeptolyr_c/src/lib.rt', '')
     tree.write('command/main.c', '')
     run = tree.start('sample')
     deadline = time.monotonic() + 30
@@ -229,7 +237,7 @@ def sample_is_interrupted(folder):
     # A terminal sends it to every process of the group.
     os.killpg(run.pid, signal.SIGINT)
     out, said, status = tree.finished(run)
-    if (status, out, said) != (130, '', 'proving and building skeptolyr\nsample: interrupted\n'):
+    if (status, out, said) != (130, '', 'proving and building libskeptolyr.a\nsample: interrupted\n'):
         yield 'it ends with %d and says %r' % (status, out + said)
     if not os.path.exists(told):
         yield 'it has not started to prove'
@@ -309,7 +317,7 @@ def nothing_reaches_into_tests():
 
 
 def edits_are_whole():
-    """Each file of must-fail/ is an edit that rt tries in full: it would pass over one of another name, an old line without its new one, and a second line."""
+    """Each file of must-fail/ is an edit that rt tries in full: one of another name, an old line without its new one, and a second line would be bad."""
     for name in tracked(''):
         if '/must-fail/' not in name:
             continue

@@ -14,7 +14,7 @@ from typing import NamedTuple
 from tests.help import grib, reading
 from tests.help.manual import HEADER, refusals, text_of
 from tests.help.report import ended, judged
-from tools import TOP, archive, module
+from tools import TOP, archive, kit, module
 
 NUMBERS = os.path.join(TOP, 'crates', 'refusals', 'specs', 'Refusals.antt')
 
@@ -392,7 +392,7 @@ def arrays_are_only_written(folder):
     be passed. Describe hands its pointer on in memory, which counts as keeping it, so of describe the first alone is found. Picture moves greys that it has put
     into its array, so of picture nothing is found: tests/pictures.py asks with other octets in the array."""
     found = os.path.join(folder, 'optimised.ll')
-    module.run(module.tool('clang'), '--target=x86_64-unknown-linux-gnu', '-O3', '-S', '-emit-llvm', '-Wno-override-module', '-x', 'ir', module.text('skeptolyr'), '-o', found)
+    kit.run(kit.tool('clang'), '--target=' + kit.TRIPLES['x86_64'], '-O3', '-S', '-emit-llvm', '-Wno-override-module', '-x', 'ir', module.text('skeptolyr'), '-o', found)
     faults, filled = [], 0
     for function in FUNCTIONS.values():
         head = re.search(r'^define [^@]*@%s\((.*)\) ' % function, text_of(found), re.M).group(1)

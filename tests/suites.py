@@ -37,5 +37,4 @@ SUITES = [
 
 # What several suites use, by the module that builds it and the words it is given. It is built before they start, so that no two of them build it at once.
 SHARED = [
-    ('tools.module', 'skeptolyr'), ('tools.built', 'library', 'skeptolyr'), ('tools.built', 'program', 'listing'), ('tools.built', 'program', 'tests_ask'),
-    ('tools.module', 'listing')]
+    ('tools.built', 'library', 'skeptolyr'), ('tools.module', 'skeptolyr'), ('tools.built', 'program', 'listing'), ('tools.built', 'program', 'tests_ask')]

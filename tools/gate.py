@@ -1,8 +1,9 @@
 """What tools/test does: `rt ci`, which proves every crate, tries every edit that must fail and runs every program, and then the suites of tests/suites.py.
 
-`rt ci` uses every processor. Of the suites, most of which use one, two run beside each other. What each prints is shown whole, in the order of the
-list. The line before the last tells what was skipped, and the last is 'N passed, M failed', summed over all. A suite whose number of
-tests is another than the list says has failed, and so has one that ends in no such line.
+`rt ci` uses every processor. It has also failed where an edit could not be tried, which it calls bad. What it has built is what the suites use. Of the suites,
+most of which use one processor, two run beside each other. What each prints is shown whole, in the order of the list. The line before the last tells what was
+skipped, and the last is 'N passed, M failed', summed over all. A suite whose number of tests is another than the list says has failed, and so has one that
+ends in no such line.
 """
 import glob
 import os
@@ -15,7 +16,7 @@ import time
 from typing import NamedTuple
 
 from tests.suites import SHARED, SUITES
-from tools import TOP
+from tools import TOP, built
 
 AT_ONCE = 2
 SECONDS_BETWEEN_LOOKS = 0.05
@@ -42,13 +43,13 @@ class Verdict(NamedTuple):
 # ---- what is to be run
 
 def tests_of_rt():
-    """How many tests `rt ci` has: a crate is one, a program with its run too, and so is every file of a crate's must-fail/."""
-    return sum(len(glob.glob(os.path.join(TOP, 'crates', *path))) for path in (['*'], ['*', 'must-fail', '*']))
+    """How many tests `rt ci` has: a crate is one, a program with its runs too, and so is every edit of a crate's must-fail/."""
+    return sum(len(glob.glob(os.path.join(TOP, 'crates', *path))) for path in (['*'], ['*', 'must-fail', '*.edit']))
 
 
 def proofs():
     what = 'every crate proved, every must-fail edit refused, every program run'
-    return Task(what, ('rt', 'ci'), tests_of_rt(), 'the folders of crates/ and the files of their must-fail/ are')
+    return Task(what, ('rt', 'ci'), tests_of_rt(), 'the folders of crates/ and the edits of their must-fail/ are')
 
 
 def preparations():
@@ -82,6 +83,16 @@ def judged(task, said, status):
     if failed == 0 and status != 0:
         faults.append('it ended with status %d, and tells of no failure' % status)
     return Verdict(passed, failed + len(faults), skipped, faults)
+
+
+def of_rt(task, said, status):
+    """The verdict on `rt ci`. Its line that begins 'rt: ok' tells of edits that cannot be applied or read: they show nothing, and count as failed here."""
+    verdict = judged(task, said, status)
+    lines = re.findall(r'^rt: ok\b.*', said, re.M)
+    bad = [int(count) for line in lines for count in re.findall(r', (\d+) bad\b', line)]
+    faults = ['%d of its edits are bad: mend them' % sum(bad)] * (sum(bad) > 0)
+    faults += ["it tells of no failure, and has no line that begins 'rt: ok'"] * (not lines and status == 0 and verdict.failed == 0)
+    return verdict._replace(failed=verdict.failed + len(faults), faults=verdict.faults + faults)
 
 
 def of_preparation(task, said, status):
@@ -175,7 +186,10 @@ def main():
     for number in (signal.SIGTERM, signal.SIGHUP):
         signal.signal(number, interrupted)
     try:
-        verdicts = all_judged([proofs()])
+        were_built = built.are_built()
+        verdicts = all_judged([proofs()], of_rt)
+        if not verdicts[0].failed:
+            built.keep(were_built)
         for task in preparations():
             verdicts += all_judged([task], of_preparation)
         verdicts += all_judged(suites())

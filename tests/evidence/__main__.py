@@ -8,7 +8,6 @@ import array
 import concurrent.futures
 import functools
 import os
-import platform
 import random
 import re
 import shutil
@@ -82,23 +81,10 @@ def write_full():
         integers.write(b''.join(grib.number(x, 4) for x in shapes.smooth(random.Random(FULL_SEED), cone.NI, cone.NJ, FULL_LARGEST)))
 
 
-def native(crate, source):
-    """The command of a program in C over the crate's code for this machine."""
-    code = os.path.join(BUILT, 'lib%s.native.a' % crate)
-    os.makedirs(BUILT, exist_ok=True)
-    subprocess.run([sys.executable, '-m', 'tools.native', crate, code], cwd=TOP, check=True)
-    return [built(crate + '.native', *COMPILER, source, code)]
-
-
 @functools.cache
-def lenders():
-    """The commands of the program that calls proved code from C, by what it calls."""
-    found = {'the archive that users link': archive.program('skeptolyr', LENDER)}
-    if platform.machine() == 'x86_64':
-        print('The archive is native code on this machine: what goes through the one goes through the other.')
-    else:
-        found['native code'] = native('skeptolyr', LENDER)
-    return found
+def lender_of_archive():
+    """The command of the program that calls the archive that users link."""
+    return archive.program('skeptolyr', LENDER)
 
 
 def program_of_kit(name):
@@ -122,12 +108,9 @@ def decoder_tests():
 
 
 def compared(program, *words):
-    """Does every lender there is answer as the independent decoder does? It is one test, so that there are as many where the archive is native code."""
-    results = []
-    for name, lender in lenders().items():
-        print('%s, against the independent decoder:' % name, flush=True)
-        results.append(asked(program, *words, '--', *lender))
-    return all(results)
+    """Does the archive answer as the independent decoder does?"""
+    print('the archive that users link, against the independent decoder:', flush=True)
+    return asked(program, *words, '--', *lender_of_archive())
 
 
 def faults_found(program):
@@ -175,23 +158,25 @@ def mutants():
 
 
 def tried(program, name, seed):
-    """Do the interpreter and the code compiled at -O0, at -O3 and with the compiler's assumptions checked print what the independent decoder says?"""
-    place = os.path.join(BUILT, 'try')
+    """Do the interpreter and the code compiled with checks of each index, sum and access print what the independent decoder says?"""
+    place, cases = os.path.join(BUILT, 'try'), os.path.join(BUILT, 'try', 'cases')
     shutil.rmtree(place, ignore_errors=True)
-    shutil.copytree(os.path.join(TOP, 'crates'), os.path.join(place, 'crates'))
+    shutil.copytree(os.path.join(TOP, 'crates'), os.path.join(place, 'crates'), ignore=shutil.ignore_patterns('out'))
+    os.makedirs(cases)
     source = os.path.join(place, 'crates', 'vectors', 'src', 'main.rt')
     os.makedirs(os.path.dirname(source))
     shutil.copy(VECTORS, source)
     with open(os.path.join(TOP, 'crates.txt'), encoding='utf-8') as crates, open(os.path.join(place, 'crates.txt'), 'w', encoding='utf-8') as more:
-        more.write(crates.read() + 'vectors: octets skeptolyr io libc\n')
-    if not asked(program, 'vectors', name, seed, os.path.join(place, 'crates', name)):
+        more.write(crates.read() + 'vectors: octets skeptolyr\n')
+    if not asked(program, 'vectors', name, seed, cases):
         return False
-    done = subprocess.run(['rt', 'try', name], cwd=place, stdout=subprocess.PIPE, stderr=subprocess.STDOUT, text=True)
-    ways = re.findall(r'^ok: (.*) ended and wrote what is expected$', done.stdout, re.M)
-    if done.returncode or len(ways) != 4:
+    command = ['rt', 'try', '--cases', cases]
+    done = subprocess.run(command, cwd=os.path.join(place, 'crates', name), stdout=subprocess.PIPE, stderr=subprocess.STDOUT, text=True)
+    is_right = done.returncode == 0 and 'case=questions run=ended status=0 runners=2 output=expected proved=no' in done.stdout.split('\n')
+    if not is_right:
         print(done.stdout)
-    print('%s, tried: %s' % (name, '; '.join(ways)), flush=True)
-    return done.returncode == 0 and len(ways) == 4
+    print('%s, tried: the interpreter and the code with checks %s what is expected' % (name, 'print' if is_right else 'do not both print'), flush=True)
+    return is_right
 
 
 def samples_listed(listing):
@@ -210,7 +195,7 @@ def off_by(degrees, millionths):
 
 def seas_lie_alike():
     """Does the archive put every column and every row of the seas where ecCodes does, to the half millionth that it rounds by?"""
-    reader, lender, most = built('places', *COMPILER, 'tests/peers/places.c', '-leccodes'), archive.program('skeptolyr', LENDER), 0
+    reader, lender, most = built('places', *COMPILER, 'tests/peers/places.c', '-leccodes'), lender_of_archive(), 0
     for grid in SEAS:
         found = array.array('d', subprocess.run([reader], input=fields.file_on(grid), stdout=subprocess.PIPE, check=True).stdout)
         latitudes, longitudes = found[:grid.ni * grid.nj], found[grid.ni * grid.nj:]
@@ -223,7 +208,7 @@ def seas_lie_alike():
 
 def sheet_places(asked):
     """Where the archive puts points on the sheet of the Agency's cone: how far to the right of the first point and how far below it, in metres."""
-    lender, file, before, lent, size = archive.program('skeptolyr', LENDER), cone.downward(), None, [], 8 * 3
+    lender, file, before, lent, size = lender_of_archive(), cone.downward(), None, [], 8 * 3
     for n in asked:
         lent.append(lending.question(lending.SHEET, file, before, 0, n, lengths=(2, 0), written=2))
         before = file
@@ -280,15 +265,13 @@ def whole():
 def soak(minutes, seed=None):
     seed = seed or str(int(time.time()))
     print('from seed %s on' % seed, flush=True)
-    program, found = evidence(), lenders()
-    share = str(max(1, int(minutes) // len(found)))
-    return 0 if all([asked(program, 'soak', share, seed, '--', *lender) for lender in found.values()]) else 1
+    return 0 if asked(evidence(), 'soak', minutes, seed, '--', *lender_of_archive()) else 1
 
 
 def repeat(part, seed, number):
     program = evidence()
     rules, file = RULES if part == 'all' else 'none', os.path.join(BUILT, 'case.grib2')
-    return 0 if all([asked(program, 'repeat', rules, seed, number, file, '--', *lender) for lender in lenders().values()]) else 1
+    return 0 if asked(program, 'repeat', rules, seed, number, file, '--', *lender_of_archive()) else 1
 
 
 def main():

@@ -1,4 +1,4 @@
-//! Vectors for programs that run on the interpreter and compiled in several ways: what they read, and what they have to print.
+//! Vectors for programs that run on the interpreter and compiled with checks: what they read, and what they have to print.
 use crate::answers::{untouched_numbers, untouched_runs, Answer};
 use crate::answers_of;
 use crate::cases::{length_in_turn, Case, Question};
@@ -144,7 +144,7 @@ fn rebuilds(seed: u64) -> (Vec<u8>, String) {
     (input, output)
 }
 
-/// Writes what a program reads and has to print, by its name, into a folder.
+/// Writes what a program reads and has to print, by its name, into a folder, under the names that `rt try --cases` looks for.
 pub fn write(name: &str, seed: u64, folder: &str) -> io::Result<bool> {
     let (input, output) = match name {
         "vectors" => questions(seed),
@@ -154,8 +154,8 @@ pub fn write(name: &str, seed: u64, folder: &str) -> io::Result<bool> {
             return Ok(false);
         }
     };
-    fs::write(Path::new(folder).join("stdin"), input)?;
-    fs::write(Path::new(folder).join("stdout"), &output)?;
+    fs::write(Path::new(folder).join("questions"), input)?;
+    fs::write(Path::new(folder).join("questions.stdout"), &output)?;
     println!("seed {}: {} vectors for {}", seed, output.lines().count(), name);
     Ok(true)
 }

@@ -18,7 +18,7 @@ from samples import make, shapes
 from tests import fields
 from tests.help import SEED, grib, report
 from tests.peers import damage
-from tools import TOP, archive, debian
+from tools import TOP, archive, built, debian
 
 BUILT = os.path.join(TOP, 'target', 'memory')
 FILES = os.path.join(BUILT, 'files')
@@ -148,13 +148,6 @@ def compiled(name, *words):
     """A program of target/memory, compiled of these words."""
     out = os.path.join(BUILT, name)
     subprocess.run([*COMPILER, *words, '-o', out], cwd=TOP, check=True)
-    return out
-
-
-def native_archive():
-    say('proving and compiling skeptolyr')
-    out = os.path.join(BUILT, 'libskeptolyr.native.a')
-    subprocess.run([sys.executable, '-m', 'tools.native', 'skeptolyr', out], cwd=TOP, check=True)
     return out
 
 
@@ -343,7 +336,8 @@ def results_of(watched, names):
 
 def main():
     os.makedirs(BUILT, exist_ok=True)
-    names, code, sources = written(), native_archive(), archive.command_sources()
+    say('proving and compiling skeptolyr')
+    names, code, sources = written(), built.library('skeptolyr'), archive.command_sources()
     plain = compiled('skeptolyr', *sources, code, '-lm')
     reaches_everything.__doc__ %= DAMAGED
     results = [report.tried(reaches_everything, plain, names)]
