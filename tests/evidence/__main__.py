@@ -36,6 +36,8 @@ CASES = '1000000'
 LISTINGS = '600'
 REBUILDS = '200000'
 VALID_FILES = '3000'
+# What the interpreter may take for the questions of one program.
+MOST_STEPS = '200000000'
 RUST = ['rustc', '--edition', '2021', '-C', 'overflow-checks=on']
 COMPILER = ['gcc', *archive.FLAGS, '-O2']
 LENDER = 'tests/help/lend.c'
@@ -170,7 +172,7 @@ def tried(program, name, seed):
         more.write(crates.read() + 'vectors: octets skeptolyr\n')
     if not asked(program, 'vectors', name, seed, cases):
         return False
-    command = ['rt', 'try', '--cases', cases]
+    command = ['rt', 'try', '--cases', cases, '--steps', MOST_STEPS]
     done = subprocess.run(command, cwd=os.path.join(place, 'crates', name), stdout=subprocess.PIPE, stderr=subprocess.STDOUT, text=True)
     is_right = done.returncode == 0 and 'case=questions run=ended status=0 runners=2 output=expected proved=no' in done.stdout.split('\n')
     if not is_right:

@@ -15,7 +15,7 @@ use std::rc::Rc;
 const ROOM: u64 = 64;
 const PICTURE_ROOM: u64 = 96;
 const REBUILDS: usize = 1000;
-/// The interpreter takes ten million steps at most, which are enough for a few more than so many files.
+/// The steps that __main__.py gives the interpreter are enough for a few more than so many files.
 const FILES: u64 = 80;
 
 fn hexadecimal(octets: &[u8]) -> String {
