@@ -6,7 +6,7 @@ import sys
 
 from tests import header
 from tests.help import believed, limits, reading, report
-from tools import spec
+from tools import built, kit, spec
 
 TOP = os.path.dirname(os.path.dirname(os.path.abspath(__file__)))
 os.chdir(TOP)
@@ -28,7 +28,7 @@ def listed():
     """The crates of crates.txt, each with its line."""
     found = {}
     for line in lines_of('crates.txt'):
-        name = re.match(r'([a-z0-9_]+):', line)
+        name = re.match(r'([a-z0-9_]+)(?: staticlib)?:', line)
         if name:
             found[name.group(1)] = line
     return found
@@ -55,7 +55,8 @@ def lowest_first():
 
 
 def sources_in_crates():
-    """Files of Rattle and of proofs stand in a crate's src/, specs/ or proofs/."""
+    """Files of Rattle and of proofs stand in a crate's src/, specs/ or proofs/, and no file is a link: `rt ci` would refuse both."""
+    yield from (name for name in FILES if os.path.islink(name))
     for name in FILES:
         if name.endswith(('.rt', '.antt')) and not re.match(r'crates/[a-z0-9_]+/(src|specs|proofs)/', name):
             yield name
@@ -63,7 +64,7 @@ def sources_in_crates():
 
 def layout():
     """rt fmt would change nothing."""
-    run = subprocess.run(['rt', 'fmt', '--check'], capture_output=True, text=True)
+    run = subprocess.run([os.path.join(kit.folder(), 'bin', 'rattle'), 'fmt', '--check', *sources('.rt', '.antt')], capture_output=True, text=True)
     if run.returncode:
         yield (run.stdout + run.stderr).strip()
 
@@ -95,7 +96,7 @@ def printed_places():
 
 
 def words_of(line, rattle):
-    return set(re.split(r'[\s(){}.;,@"«»:&\[\]]+' if rattle else r'[\s(){}.;,@"«»]+', line))
+    return set(re.split(r'[\s(){}.;,@"«»:&\[\]]+' if rattle else r'[\s(){}.;,@"«»]+', line)) | {word for word in ('[]', '()') if word in line}
 
 
 def unused_names():
@@ -115,8 +116,8 @@ def unused_names():
             path, names, alias = use.groups()
             brought = [part.split(' as ')[-1].strip() for part in names.split(',')] if names else [alias or re.split(r'[.:]', path)[-1]]
             for word in brought:
-                parts = [part for part in word.split('_') if part]
-                said = word in body or ('_' in word and all(part in body for part in parts))
+                parts = [part for part in word.split('◌') if part]
+                said = word in body or ('◌' in word and all(part in body for part in parts))
                 if not said and not word.startswith('syntax'):
                     yield '%s:%d: %s' % (name, number, word)
 
@@ -173,7 +174,7 @@ def public_functions():
     found = {}
     for name in sources('.rt'):
         crate, folder, module = re.match(r'crates/([a-z0-9_]+)/(\w+)/(.*)\.rt$', name).groups()
-        if folder == 'src' and 'crates/%s/src/lib.rt' % crate in FILES:
+        if folder == 'src' and 'crates/%s/src/lib.rt' % crate in FILES and crate not in exporters():
             here = believed.file_of(name[len('crates/'):])
             within = [] if module == 'lib' else module.split('/')
             for function in filter(here.is_contract, here.defined):
@@ -181,13 +182,50 @@ def public_functions():
     return found
 
 
+def exporters():
+    """The crates that export functions to C. No other crate can stand on one."""
+    return {crate for crate, line in listed().items() if re.match(r'\w+ staticlib:', line)}
+
+
+def exports():
+    """Each function that is exported to C, as CRATE::FUNCTION of the library that has it: its file, its contract, and its body."""
+    found = {}
+    for crate in sorted(exporters()):
+        name = 'crates/%s/src/lib.rt' % crate
+        for function, contract, body in re.findall(r'^pub extern "C" fn (\w+)(.*?)^\{\n(.*?)^\}$', '\n'.join(lines_of(name)), re.M | re.S):
+            found['%s::%s' % (crate[:-len('_c')], function)] = (name, contract, body)
+    return found
+
+
+def exports_are_the_functions():
+    """What C links of a library NAME is exported by the crate NAME_c: every public function, each with the very contract that it has there, and its body only
+    calls it. Nothing else there is exported."""
+    wanted = {}
+    for crate in sorted(exporters()):
+        if built.exporter(crate[:-len('_c')]) != crate:
+            yield 'crates/%s: its name is not that of a library, with _c after it' % crate
+        library = '\n'.join(lines_of('crates/%s/src/lib.rt' % crate[:-len('_c')]))
+        for function, contract in re.findall(r'^pub fn (\w+)(.*?)^\{\n', library, re.M | re.S):
+            passed = ', '.join(re.findall(r'(\w+): ', contract.split(') ->')[0]))
+            wanted['%s::%s' % (crate[:-len('_c')], function)] = (contract, '    %s::%s(%s)\n' % (crate[:-len('_c')], function, passed))
+        text = '\n'.join(lines_of('crates/%s/src/lib.rt' % crate))
+        if len(re.findall(r'\bfn ', text)) != len(re.findall(r'^#\[unsafe\(no_mangle\)\]\npub extern "C" fn ', text, re.M)):
+            yield 'crates/%s: it has a function that is not exported' % crate
+    found = exports()
+    for called in sorted(wanted.keys() | found.keys()):
+        if called not in found or called not in wanted:
+            yield '%s is %s' % (called, 'not exported' if called in wanted else 'exported, and no public function of that crate')
+        elif found[called][1:] != wanted[called]:
+            yield '%s: %s does not have its contract, or does more than call it' % (found[called][0], called)
+
+
 def nothing_asked_of_users():
     """No function that docs/DEMANDS.md lists as called by users has a `requires`, and every one that C calls is listed."""
     users = believed.users()
+    for called in sorted(exports().keys() - users):
+        yield '%s: %s is not listed' % (exports()[called][0], called)
     for function, (name, contract) in public_functions().items():
         called = '::'.join((function.split('.')[0], function.split('.')[-1]))
-        if 'extern "C"' in contract[0] and called not in users:
-            yield '%s: %s is not listed' % (name, called)
         if called in users and any('requires' in line for line in contract):
             yield '%s: %s asks something' % (name, called)
         users.discard(called)
@@ -196,15 +234,18 @@ def nothing_asked_of_users():
 
 
 # The functions whose answer is a part of the file, of which the octets are seen, and not where they lie: docs/DEMANDS.md, "Any two outcomes are equal".
-SEEN = {'section.octets_in': '_ (λ _. now)', 'section_6.bitmap_in_force': '_ (λ _. now)'}
+SEEN = {'section.octets_in': '_ (λ _. (λ x. x.now))', 'section_6.bitmap_in_force': '_ (λ _. (λ x. x.now))'}
 
 
 def outcome_of(function):
     """The one line by which crates/theorems_outcomes may state that a function's outcomes are determined."""
-    crate, rest = function.split('.', 1)
-    called = '%s.%s' % (crate.replace('_', '-'), rest)
-    said = ('SeenDetermined %s.ended ' + SEEN[function] if function in SEEN else 'Determined %s.ended') % called
-    return 'pub %s : %s (λ _. %s.clauses)' % (re.sub('[._]', '-', called), said, called)
+    said = ('SeenDetermined %s.ended ' + SEEN[function] if function in SEEN else 'Determined %s.ended') % function
+    return 'pub %s : %s (λ _. %s.clauses)' % (function.replace('.', '_'), said, function)
+
+
+def with_crates(line):
+    """The line with the crates under their own names, in place of those that it calls them by, which have a - for each _."""
+    return re.sub(r'[\w-]+(?=\.[\w.]+\.(?:ended|clauses)\b)', lambda name: name.group().replace('-', '_'), line)
 
 
 def outcomes_are_determined():
@@ -215,35 +256,33 @@ def outcomes_are_determined():
             continue
         here = believed.file_of(name[len('crates/'):])
         for number, line in enumerate(here.lines, 1):
-            use = re.match(r'use Rattle·(\w+)\.proofs as (\S+)$', line)
-            if use and use.group(2) != use.group(1).replace('_', '-'):
+            use = re.match(r'use Rattle\.(\w+)\.proofs as (\S+)$', line)
+            if use and use.group(2).replace('-', '_') != use.group(1):
                 yield '%s:%d: %s stands for %s' % (name, number, use.group(2), use.group(1))
-            if 'Determined ' in line and not line.startswith('--') and line not in wanted:
+            if 'Determined ' in line and not line.startswith('--') and with_crates(line) not in wanted:
                 yield '%s:%d: no theorem that is asked for: %s' % (name, number, line)
-            wanted.pop(line, None)
-        for word in ('Determined', 'SeenDetermined', 'now'):
+            wanted.pop(with_crates(line), None)
+        for word in ('Determined', 'SeenDetermined'):
             if word in here.defined or (word in here.brought and here.brought[word] != ('theorems_outcomes/specs/Determined.antt', word)):
                 yield '%s: %s is not what it is called' % (name, word)
-        if 'SeenDetermined' in here.brought and 'use denote.Ref.{now}' not in here.lines:
-            yield '%s: no `use` line brings `now`' % name
     for line, name in sorted(wanted.items()):
         yield '%s: no theorem: %s' % (name, line)
 
 
 # The theorems that the demands are, each with the file of its proof and its whole statement.
 STATEMENTS = {
-    'demand-1': ('theorems_demands/proofs/Demand1.antt', ['pub demand-1 : (file : List ℕ) → Demand1 file']),
-    'demand-2': ('theorems_demands/proofs/Demand2.antt', ['pub demand-2 : (file : List ℕ) → Demand2 file']),
-    'demand-3': ('theorems_demands/proofs/Demand3.antt', ['pub demand-3 : (file : List ℕ) → Demand3 file']),
-    'rebuild-meets': ('theorems_demands/proofs/Rebuild.antt', ['module _ (r : ℕ) (e d x : Signed) where', '  pub rebuild-meets : Rebuilds r e d x']),
-    'no-impostor': ('theorems_demands/proofs/Impostors.antt', ['pub no-impostor : NoImpostor']),
+    'demand_1': ('theorems_demands/proofs/Demand1.antt', ['pub demand_1 : (file : List ℕ) → Demand1 file']),
+    'demand_2': ('theorems_demands/proofs/Demand2.antt', ['pub demand_2 : (file : List ℕ) → Demand2 file']),
+    'demand_3': ('theorems_demands/proofs/Demand3.antt', ['pub demand_3 : (file : List ℕ) → Demand3 file']),
+    'rebuild_meets': ('theorems_demands/proofs/Rebuild.antt', ['module _ (r : ℕ) (e d x : Signed) where', '  pub rebuild_meets : Rebuilds r e d x']),
+    'no_impostor': ('theorems_demands/proofs/Impostors.antt', ['pub no_impostor : NoImpostor']),
     'examples': ('theorems_demands/proofs/Examples.antt', ['pub examples : Examples']),
     'calls': ('theorems_calls/proofs/Calls.antt', ['pub calls : Calls']),
-    'no-impostor-for-c': ('theorems_calls/proofs/Impostors.antt', ['pub no-impostor-for-c : NoImpostorForC']),
-    'no-impostor-for-point': ('theorems_calls/proofs/PointImpostors.antt', ['pub no-impostor-for-point : NoImpostorForPoint']),
-    'no-impostor-for-picture': ('theorems_calls/proofs/PictureImpostors.antt', ['pub no-impostor-for-picture : NoImpostorForPicture']),
-    'rattle-calls': ('theorems_calls/proofs/Calls.antt', ['pub rattle-calls : RattleCalls']),
-    'section-limits': ('theorems_limits/proofs/Limits.antt', ['pub section-limits : SectionLimits']),
+    'no_impostor_for_c': ('theorems_calls/proofs/Impostors.antt', ['pub no_impostor_for_c : NoImpostorForC']),
+    'no_impostor_for_point': ('theorems_calls/proofs/PointImpostors.antt', ['pub no_impostor_for_point : NoImpostorForPoint']),
+    'no_impostor_for_picture': ('theorems_calls/proofs/PictureImpostors.antt', ['pub no_impostor_for_picture : NoImpostorForPicture']),
+    'rattle_calls': ('theorems_calls/proofs/Calls.antt', ['pub rattle_calls : RattleCalls']),
+    'section_limits': ('theorems_limits/proofs/Limits.antt', ['pub section_limits : SectionLimits']),
 }
 
 
@@ -294,7 +333,7 @@ def definitions_are_read():
                 use = believed.USE.match(line)
                 if believed.is_counted(line) and number not in read:
                     yield '%s:%d' % (name, number + 1)
-                if 'Rattle·' in line and not re.match(r'use Rattle·\w+\.proofs as \S+$', line) and not (use and use.group(2) == 'specs'):
+                if re.search(r'\bRattle\.', line) and not re.match(r'use Rattle\.\w+\.proofs as \S+$', line) and not (use and use.group(2) == 'specs'):
                     yield '%s:%d: %s' % (name, number + 1, line)
 
 
@@ -360,7 +399,7 @@ def sample_is_the_sample():
     """The file of two fields that theorems compute with is samples/two-fields.grib2."""
     text = ' '.join(lines_of('crates/theorems_demands/specs/Sample.antt'))
     parts = {name: re.findall(r'0x([0-9a-f]{2})|\b(high|low)\b', body) for name, body in re.findall(r'(\w+)(?: high low)? =\s+((?:(?:0x\w\w|high|low) ∷\s*)+)\[\]', text)}
-    whole = re.search(r'twoFields = (.*?) (?:unfoldable|--)', text).group(1).split(' ++ ')
+    whole = re.search(r'two_fields = (.*?) (?:unfoldable|--)', text).group(1).split(' ++ ')
     octets = []
     for part in whole:
         name, *given = part.split()
@@ -479,7 +518,7 @@ def own_words():
 
 RULES = [
     crates_are_listed, lowest_first, sources_in_crates, layout, must_fail_edits, opening_comments, printed_places, unused_names, short_functions,
-    contracts_fit, names_mean_one_thing, code_stands_on_code, nothing_asked_of_users, outcomes_are_determined, demands_are_listed,
+    contracts_fit, names_mean_one_thing, code_stands_on_code, exports_are_the_functions, nothing_asked_of_users, outcomes_are_determined, demands_are_listed,
     demands_are_stated, promises_stand_in_specs, definitions_are_read, trust_is_counted, demands_name_what_is_there, evidence_is_counted, version_is_told,
     sample_is_the_sample, texts_are_narrow, words_are_plain, links_lead_somewhere, limits_are_pinned, rules_are_cited, spec_is_written,
     rules_are_those_tested, own_words,

@@ -17,7 +17,7 @@ class Suite(NamedTuple):
 
 SUITES = [
     Suite('gate', 14, 'the gate itself, with suites that lose tests, die, skip and fail'),
-    Suite('house', 31, 'the rules of the house'),
+    Suite('house', 32, 'the rules of the house'),
     Suite('header', 13, 'the header, which is the manual, against the rules and the proved definition'),
     Suite('leaves', 6, 'the leaf layers against computations of their own'),
     Suite('tiling', 3, 'the archive that C links against an independent reading'),

@@ -14,6 +14,7 @@ import shutil
 import struct
 import subprocess
 import sys
+import tempfile
 import time
 
 from samples import shapes
@@ -160,9 +161,14 @@ def mutants():
 
 
 def tried(program, name, seed):
-    """Do the interpreter and the code compiled with checks of each index, sum and access print what the independent decoder says?"""
-    place, cases = os.path.join(BUILT, 'try'), os.path.join(BUILT, 'try', 'cases')
-    shutil.rmtree(place, ignore_errors=True)
+    """Do the interpreter and the code compiled with checks of each index, sum and access print what the independent decoder says? They are built of a copy of
+    all crates that stands outside this tree, since `rt ci` refuses a file of Rattle that it does not read."""
+    with tempfile.TemporaryDirectory() as place:
+        return tried_in(place, program, name, seed)
+
+
+def tried_in(place, program, name, seed):
+    cases = os.path.join(place, 'cases')
     shutil.copytree(os.path.join(TOP, 'crates'), os.path.join(place, 'crates'), ignore=shutil.ignore_patterns('out'))
     os.makedirs(cases)
     source = os.path.join(place, 'crates', 'vectors', 'src', 'main.rt')

@@ -18,12 +18,12 @@ PINNED = {
     'tiling/specs/Tiling.antt': {'check'},
     'question/specs/Describe.antt': {'describe'},
     'question/specs/Judge.antt': {'judge'},
-    'question_place/specs/Place.antt': {'place', 'sheet', 'onDegrees', 'onLambert'},
-    'question_decode/specs/Decoding.antt': {'answer', 'valuesLeft', 'presenceLeft'},
-    'question_point/specs/Point.antt': {'point', 'pointInto'},
-    'question_picture/specs/Picture.antt': {'pictured', 'runLeft'},
-    'doubles/specs/Doubles.antt': {'rebuildOne', 'valueOf'},
-    'skeptolyr/specs/Codes.antt': {'pointCode', 'pointLeft', 'pictureCode', 'numbersCode', 'numbersLeft', 'describedFor', 'placedFor', 'sheetFor'},
+    'question_place/specs/Place.antt': {'place', 'sheet', 'on_degrees', 'on_lambert'},
+    'question_decode/specs/Decoding.antt': {'answer', 'values_left', 'presence_left'},
+    'question_point/specs/Point.antt': {'point', 'point_into'},
+    'question_picture/specs/Picture.antt': {'pictured', 'run_left'},
+    'doubles/specs/Doubles.antt': {'rebuild_one', 'value_of'},
+    'skeptolyr/specs/Codes.antt': {'point_code', 'point_left', 'picture_code', 'numbers_code', 'numbers_left', 'described_for', 'placed_for', 'sheet_for'},
 }
 # The function that the program `listing` calls for all that it prints: docs/DEMANDS.md lists the program, since this one asks for a run that is long enough.
 LISTING = 'listing_file::list'
@@ -32,8 +32,8 @@ HEAD = re.compile(r'\s*(?:(?:abbrev|unfoldable) )?(?:pub )?(?:(?:record|data) )?
 OPENS = re.compile(r'\s*(?:abbrev |unfoldable |pub |record |data )')
 FUNCTION = re.compile(r'\s*pub (?:extern "C" )?fn (\w+)')
 SHAPE = re.compile(r'\s*pub (?:struct|enum) (\w+)')
-USE = re.compile(r'(?:ghost )?use Rattle·(\w+)(?:·\w+)?\.(specs|proofs)\.(.*?)(?:\.\{(.*)\})?(?: as (\S+?))?;?$')
-CLAUSE = re.compile(r'\s*(?:requires|ensures) ')
+USE = re.compile(r'(?:ghost )?use Rattle\.(\w+)\.(specs|proofs)\.(.*?)(?:\.\{(.*)\})?(?: as (\S+?))?;?$')
+CLAUSE = re.compile(r'\s*(?:requires|ensures)(?: \w+)? \{')
 
 
 def depth(line):
@@ -67,11 +67,11 @@ class File:
 
     def read_use(self, line):
         """Notes what a `use` line of ours brings: a file and a name in it, or a file under another name. A struct or an enum comes from its crate's src/."""
-        own = re.match(r'use (\w+)::(\w+);', line)
+        own = re.match(r'use (\w+)::(?:(\w+)|\{(.*)\});', line)
         use = USE.match(line)
-        if own:
-            self.brought[own.group(2)] = (own.group(1) + '/src', own.group(2))
-        if not use:
+        for shape in (own.group(2) or own.group(3)).split(', ') if own else []:
+            self.brought[shape] = (own.group(1) + '/src', shape)
+        if not use or use.group(1) not in order():
             return
         crate, folder, path, names, alias = use.groups()
         shape = path.split('.')[1] if path.startswith('declared.') else None
@@ -140,7 +140,8 @@ class File:
                 self.define(name, number, None)
             elif name and line.strip() and not line.lstrip().startswith('{') and not is_comment(line):
                 self.defined[name].append(number)
-            if line.startswith('}') or line.lstrip().startswith('{') or line.endswith(';') or (FUNCTION.match(line) and line.endswith('{')):
+            opens = name and self.is_contract(name) and line.endswith('{')
+            if line.startswith('}') or line.lstrip().startswith('{') or line.endswith(';') or opens:
                 name = None
 
     def is_contract(self, name):
@@ -158,7 +159,7 @@ class File:
         found = set()
         for line in (self.lines[number] for number in self.numbers(name)):
             rattle = self.name.endswith('.rt') and not CLAUSE.match(line)
-            found |= set(re.findall(r'\b[A-Z]\w*', line) if rattle else re.split(r'[\s(){};,]+', line))
+            found |= set(re.findall(r'\b[A-Z]\w*', line) if rattle else re.split(r'[\s(){};,]+', CLAUSE.sub('', line)))
         return found
 
     def meant(self, word):
@@ -204,7 +205,7 @@ def characterised():
     found = set()
     for path in glob.glob(os.path.join(TOP, 'crates', 'theorems_*', 'specs', '*.antt')):
         text = '\n'.join(read(path))
-        crates = {alias: crate for crate, alias in re.findall(r'^use Rattle·(\w+)\.proofs as (\S+)$', text, re.M)}
+        crates = {alias: crate for crate, alias in re.findall(r'^use Rattle\.(\w+)\.proofs as (\S+)$', text, re.M)}
         found |= {'%s::%s' % (crates[alias], function) for alias, function in re.findall(r'([\w-]+)\.(\w+)\.clauses', text) if alias in crates}
     return found
 
@@ -273,9 +274,10 @@ def is_shape(name, definition):
     return name.endswith('.rt') and not file_of(name).is_contract(definition)
 
 
+@functools.lru_cache(None)
 def order():
     """The crates, lowest first."""
-    return [line.split(':')[0] for line in read('crates.txt') if re.match(r'\w+:', line)]
+    return re.findall(r'^(\w+)(?: staticlib)?:', '\n'.join(read('crates.txt')), re.M)
 
 
 def in_order(pairs):

@@ -15,14 +15,14 @@ import re
 import shutil
 import subprocess
 import sys
+import tempfile
 from typing import NamedTuple
 
 from tests.help import believed
 
 TOP = os.path.dirname(os.path.dirname(os.path.dirname(os.path.abspath(__file__))))
 LIST = os.path.join(TOP, 'tests', 'help', 'limits.txt')
-SCRATCH = os.path.join(TOP, 'target', 'limits')
-TRIED = os.path.join(SCRATCH, 'tried.json')
+TRIED = os.path.join(TOP, 'target', 'limits', 'tried.json')
 TABLE = ['theorems_limits/Samples', 'theorems_limits/Judged', 'theorems_limits/Limits']
 # What RULES, "Sections in force", says of sections 1 and 3 to 7, and of times.
 DEFINITIONS = [
@@ -36,22 +36,22 @@ SECONDS = 600
 
 # Changes that alter nothing, and why: (definition, how-manieth number of it, by how much it is changed).
 UNCHANGED = {
-    ('latitudeAt', 2, -1): 'on the equator the size is 0 either way',
-    ('isOf', 7, -1): 'octet 12 is zero by the test before, and adds nothing in front of octets 13-14',
-    ('isScanned', 4, -1): 'octet 42 is zero by the test before',
-    ('statedRadius', 3, -1): 'octet 16 is zero by the test before',
-    ('statedRadius', 6, -1): 'octet 16 is zero by the test before',
-    ('statedRadius', 8, -1): 'octet 16 is zero by the test before',
-    ('degreesBy', 1, -1): 'octet 6 is zero by the test before',
-    ('lambertBy', 1, -1): 'octet 6 is zero by the test before',
-    ('productTemplateAt', 1, -1): 'octet 7 is zero in every product that is taken',
-    ('isProduct', 2, 1): 'octet 8 is zero in templates 0 and 8',
-    ('isScaled', 1, -1): 'whether R is finite is told by eight of its 32 bits, and what stands in front of these is not looked at',
-    ('presenceAt', 1, -1): 'a section of five octets is not taken by the tests that follow either',
+    ('latitude_at', 2, -1): 'on the equator the size is 0 either way',
+    ('is_of', 7, -1): 'octet 12 is zero by the test before, and adds nothing in front of octets 13-14',
+    ('is_scanned', 4, -1): 'octet 42 is zero by the test before',
+    ('stated_radius', 3, -1): 'octet 16 is zero by the test before',
+    ('stated_radius', 6, -1): 'octet 16 is zero by the test before',
+    ('stated_radius', 8, -1): 'octet 16 is zero by the test before',
+    ('degrees_by', 1, -1): 'octet 6 is zero by the test before',
+    ('lambert_by', 1, -1): 'octet 6 is zero by the test before',
+    ('product_template_at', 1, -1): 'octet 7 is zero in every product that is taken',
+    ('is_product', 2, 1): 'octet 8 is zero in templates 0 and 8',
+    ('is_scaled', 1, -1): 'whether R is finite is told by eight of its 32 bits, and what stands in front of these is not looked at',
+    ('presence_at', 1, -1): 'a section of five octets is not taken by the tests that follow either',
 }
 
 # Changes for which one row alone is tried: they make a count of hours pass 2^32, and other rows would count its days, one by one.
-ALONE = {('productDefinitionAt', 1, -1): 'forecastOctets', ('intervalOf', 2, -1): 'lengthOctets'}
+ALONE = {('product_definition_at', 1, -1): 'forecast_octets', ('interval_of', 2, -1): 'lengthOctets'}
 
 NUMBER = re.compile(r'(?<![\w.·-])(0x[0-9a-f_]+|[0-9][0-9_]*)(?![\w-])(?! =)')
 
@@ -82,7 +82,7 @@ class Number(NamedTuple):
 
 def numbers():
     """The numbers of all definitions that compute something. Those of a record or of another type state what was judged before, and decide nothing, or are of
-    the relation `LiesAt`, which `lie-as-expected` and the worked examples pin."""
+    the relation `LiesAt`, which `lie_as_expected` and the worked examples pin."""
     for file in DEFINITIONS:
         definition, count = None, 0
         for line, text in enumerate(text_of(file).split('\n')):
@@ -163,7 +163,7 @@ def reached():
 
     def visit(name):
         if name not in files:
-            for crate, declared, module in re.findall(r'^use Rattle·(\w+?)(?:·specs)?\.specs\.(declared\.)?(\w+)', text_of(name), re.M):
+            for crate, declared, module in re.findall(r'^use Rattle\.(?!std\.)(\w+)\.specs\.(declared\.)?(\w+)', text_of(name), re.M):
                 if declared:
                     types.add(module)
                 else:
@@ -174,11 +174,11 @@ def reached():
 
 
 def declarations(types):
-    """The structs and enums of these names, and of those that they hold."""
+    """The structs and enums of these names, and of those that they hold, with what they derive."""
     known = {}
     for path in glob.glob(os.path.join(TOP, 'crates', '*', 'src', '*.rt')):
         with open(path, encoding='utf-8') as text:
-            for body, name in re.findall(r'^(pub (?:struct|enum) (\w+)(?:\(.*?\);| \{.*?^\}))', text.read(), re.M | re.S):
+            for body, name in re.findall(r'^((?:#\[derive\([^\n]*\n)?pub (?:struct|enum) (\w+)(?:\([^\n]*?\);| \{.*?^\}))', text.read(), re.M | re.S):
                 known[name] = body
     waiting, found = sorted(types), []
     while waiting:
@@ -193,7 +193,7 @@ def depending(file, files):
     """Those of the files that stand on one, and itself."""
     found = {file}
     for name in files:
-        uses = {'%s/%s' % use for use in re.findall(r'^use Rattle·(\w+?)(?:·specs)?\.specs\.(\w+)', text_of(name), re.M)}
+        uses = {'%s/%s' % use for use in re.findall(r'^use Rattle\.(\w+)\.specs\.(\w+)', text_of(name), re.M)}
         found |= {name} if uses & found else set()
     return found
 
@@ -250,9 +250,9 @@ def placed(text, crate, suffix, anew):
     """A text whose `use` lines name the modules of the scratch crate: those that are proved anew have the suffix, and the others 0."""
     def module(use):
         name = '%s/%s' % use.groups()
-        return 'Rattle·%s·specs.specs.%s%d' % (crate, use.group(2), suffix if name in anew else 0)
-    text = re.sub(r'Rattle·\w+?(?:·specs)?\.specs\.declared\.', 'Rattle·%s·specs.specs.declared.' % crate, text)
-    return re.sub(r'Rattle·(?!%s·)(\w+?)(?:·specs)?\.specs\.(?!declared\.)(\w+)' % crate, module, text)
+        return 'Rattle.%s.specs.%s%d' % (crate, use.group(2), suffix if name in anew else 0)
+    text = re.sub(r'Rattle\.(?!std\.)\w+\.specs\.declared\.', 'Rattle.%s.specs.declared.' % crate, text)
+    return re.sub(r'Rattle\.(?!std\.|%s\.)(\w+)\.specs\.(?!declared\.)(\w+)' % crate, module, text)
 
 
 def write_crate(folder, versions):
@@ -277,7 +277,7 @@ def write_crate(folder, versions):
             write('specs', names['specs'][-1] + '.antt', placed(text, crate, suffix, version.anew))
         names['proofs'].append('Limits%d' % suffix)
         write('proofs', names['proofs'][-1] + '.antt', placed(only(version.rows, proof), crate, suffix, version.anew))
-    write('src', 'lib.rt', '// The types alone.\n' + declarations(types) + '\n')
+    write('src', 'lib.rt', '// The types alone.\n#![tactic(auto)]\n\n' + declarations(types) + '\n')
     for kind in names:
         write(kind, 'Lib.antt', '-- All.\n' + ''.join('pub mod %s\n' % name for name in names[kind]))
 
@@ -286,14 +286,14 @@ def broken(folder, versions):
     """The rows that do not hold, for the definitions as they are and for each version, or None where the check ends without a verdict."""
     write_crate(folder, versions)
     try:
-        done = subprocess.run(['rt', 'check', folder], stdout=subprocess.PIPE, stderr=subprocess.STDOUT, text=True, timeout=SECONDS)
+        done = subprocess.run(['rt', 'check', '--jobs', '1'], cwd=folder, stdout=subprocess.PIPE, stderr=subprocess.STDOUT, text=True, timeout=SECONDS)
     except subprocess.TimeoutExpired:
         return None
     if not re.search(r'^logic=(proved|not-proved)', done.stdout, re.M):
         return None
     found = [[] for _ in range(len(versions) + 1)]
     for path, suffix, line in re.findall(r'^(\S+/proofs/Limits(\d+)\.antt|\S+\.antt):(\d+):\d+: error', done.stdout, re.M):
-        with open(path, encoding='utf-8') as text:
+        with open(os.path.join(folder, path), encoding='utf-8') as text:
             row = re.match(r' +(\w+) = ', text.read().split('\n')[int(line) - 1])
         if not row or not suffix:
             sys.exit('limits: not an error of a row: %s:%s\n%s' % (path, line, done.stdout[:3000]))
@@ -303,13 +303,13 @@ def broken(folder, versions):
 
 # ---- all changes
 
-def judge(worker, changes):
+def judge(folder, changes):
     """The rows that each of some changes breaks, or None where there is no verdict for it alone. Beside them the table is proved unchanged."""
     files = reached()[0]
-    found = broken(os.path.join(SCRATCH, 'limits_%d' % worker), [version_of(change, files) for change in changes])
+    found = broken(folder, [version_of(change, files) for change in changes])
     if found is None and len(changes) > 1:
         half = len(changes) // 2
-        return {**judge(worker, changes[:half]), **judge(worker, changes[half:])}
+        return {**judge(folder, changes[:half]), **judge(folder, changes[half:])}
     if found and found[0]:
         sys.exit('limits: the table does not hold: %s' % ' '.join(found[0]))
     return dict(zip(changes, found[1:] if found else [None]))
@@ -323,24 +323,34 @@ def mark(change, files):
 
 
 def judge_all(changes):
-    """The same for all changes, several at a time. What target/ remembers of the same trials is not tried again."""
+    """The same for all changes, several at a time. What target/ remembers of the same trials is not tried again. The scratch crates stand outside this tree,
+    since `rt ci` refuses a file of proofs that it does not read."""
+    with tempfile.TemporaryDirectory() as scratch:
+        crates = ['limits_%d' % worker for worker in range(JOBS)]
+        with open(os.path.join(scratch, 'crates.txt'), 'w', encoding='ascii') as text:
+            text.write(''.join(crate + ':\n' for crate in crates))
+        return judge_in([os.path.join(scratch, 'crates', crate) for crate in crates], changes)
+
+
+def judge_in(folders, changes):
     files, remembered = reached()[0], {}
     marks = {change: mark(change, files) for change in changes}
     if os.path.exists(TRIED):
         with open(TRIED, encoding='ascii') as text:
             remembered = json.load(text)
-    found, free = {change: remembered[marks[change]] for change in changes if marks[change] in remembered}, list(range(JOBS))
+    found, free = {change: remembered[marks[change]] for change in changes if marks[change] in remembered}, list(folders)
     found.update({change: [] for change in changes if not version_of(change, files).rows})
     left = [change for change in changes if change not in found]
     parts = [left[at:at + TOGETHER] for at in range(0, len(left), TOGETHER)]
 
     def work(part):
-        worker = free.pop()
+        folder = free.pop()
         try:
-            return judge(worker, part)
+            return judge(folder, part)
         finally:
-            free.append(worker)
-    with concurrent.futures.ThreadPoolExecutor(JOBS) as pool:
+            free.append(folder)
+    os.makedirs(os.path.dirname(TRIED), exist_ok=True)
+    with concurrent.futures.ThreadPoolExecutor(len(folders)) as pool:
         for done in concurrent.futures.as_completed([pool.submit(work, part) for part in parts]):
             found.update(done.result())
             remembered.update({marks[change]: breaking for change, breaking in done.result().items() if breaking is not None})
