@@ -14,20 +14,20 @@ test: ## Prove every crate, try every must-fail edit, and run every other test: 
 soak: ## Go on comparing with fresh seeds, for ten minutes or as many as are given: make soak MINUTES=60.
 	@python3 -m tests.evidence soak $(or $(MINUTES),10)
 
-bench: ## Measure the proved code natively on this machine, and print the times.
+bench: ## Measure the proved code on this machine, and print the times.
 	@python3 -m bench
 
 peers: ## Put damaged files to Skeptolyr and to other readers, and write docs/PEERS.md.
 	@python3 -m tests.peers
 
-fuzz: ## Fuzz the proved code natively, for ten minutes or as many as are given: make fuzz MINUTES=60.
+fuzz: ## Fuzz the proved code, for ten minutes or as many as are given: make fuzz MINUTES=60.
 	@python3 -m fuzz $(MINUTES)
 
 memory: ## Run the command under AddressSanitizer and valgrind on all samples and on damaged files.
 	@python3 -m tests.memory
 
-check: ## Prove what has changed, and run the programs.
-	rt check
+check: ## Prove what has changed, lowest crate first.
+	rt all check
 
 lib: ## Prove and write target/staticlib/libskeptolyr.a, which C links with include/skeptolyr.h.
 	@python3 -m tools.built library skeptolyr
@@ -53,11 +53,11 @@ uninstall: ## Remove what make install has put under the same PREFIX, LIBDIR and
 dist: ## Pack what make install installs into target/dist, for people without the kit: make dist MACHINE=x86_64, or aarch64.
 	@tools/install dist
 
-dev: ## Check one crate in seconds, past its holes: make dev CRATE=bits.
-	rt dev $(CRATE) --allow-holes
+dev: ## Check one crate, past its holes: make dev CRATE=bits.
+	cd crates/$(CRATE) && rt check --allow-holes
 
 fmt: ## Lay out every file of Rattle and of proofs.
-	rt fmt
+	@for crate in crates/*; do (cd $$crate && rt fmt) || exit 1; done
 
 house: ## Hold the tree to the rules of the house.
 	@python3 -m tests.house
@@ -72,4 +72,4 @@ limits: ## Change each number of the sections' definitions by one, see a row of 
 	@python3 -m tests.help.limits
 
 clean: ## Remove all that was built.
-	rm -rf target
+	rm -rf target crates/*/out

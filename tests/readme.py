@@ -81,7 +81,6 @@ def commands_print(folder):
         script += ["cat <<'END'\n$ %s\nEND" % command, command]
     prefix = os.path.join(folder, 'installed')
     done = subprocess.run(['sh'], input='\n'.join(script).replace(PREFIX, prefix), cwd=TOP, stdout=subprocess.PIPE, text=True)
-    # There the installation also says that its code is native.
     printed = done.stdout.replace(prefix, PREFIX)
     faults = [] if blocks else ['there is no console block']
     return report.judged("the commands of the README's console block", faults + difference(''.join(blocks), printed))

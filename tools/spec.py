@@ -25,8 +25,8 @@ MOST = 159
 AFTER = {
     'The demands': 'What is promised of every file, every question and every call. [DEMANDS.md](DEMANDS.md) has them sentence by sentence.',
     'The theorems': 'What is proved, as it is stated; the proofs stand below these lines in their files.',
-    'The contracts': 'What the checker proves of the functions that users call. `r` is the answer; `now (x .entry)` is what x holds when the call begins, and '
-                     '`now (x .exit)` is what it holds when the call ends.',
+    'The contracts': 'What the checker proves of the functions that users call. `result` is the answer; `x.now` is what a run x that is only read holds; of one '
+                     'that is written `x.old` is what it holds when the call begins, and `x.new` when the call ends.',
 }
 
 OPENING = """# The definitions
@@ -42,15 +42,15 @@ stands where it is named first. Lines of %d characters and more are broken here;
 | `ℕ`, `ℤ`, `Bool`, `List ℕ`, `Float` | whole numbers from 0 on; with a sign; true or false; lists, such as the octets of a file; IEEE 754's numbers |
 | `f : A → B → C`, then `f x y = ..` | f makes a C of an A and a B; and this is how |
 | `abbrev`, `unfoldable`, `pub` | how the checker goes about a definition, and who may use it: nothing that changes what it means |
-| `record`, `data`, `s .size` | a statement or a value of several parts, all of which it has; one of several cases, one of which it is; the part `size` of s |
+| `record`, `data`, `s.size` | a statement or a value of several parts, all of which it has; one of several cases, one of which it is; the part `size` of s |
 | `cond c a b`, `eqb`, `ltb`, `leb`, `&&`, `\\|\\|`, `not` | a where c is true, and else b; the tests =, <, <=; and, or, not |
 | `≡`, `≤`, `<`, `×`, `↔`, `⊥`, `P → ⊥` | is the same as; at most; below; and; exactly when; what is never so; P is not so |
 | `(x : A) → P`, `(x : A) × P` | P holds for every x; there is an x for which P holds |
 | `-`, `/`, `%%`, `^`, `suc n`, `pos n` | of whole numbers: no less than 0; rounded down; the remainder; the power; n + 1; n as a number with a sign |
 | `[]`, `x ∷ xs`, `xs ++ ys` | the empty list; x and then the list xs; xs and then ys |
-| `take n xs`, `drop n xs`, `getD xs i d` | the first n elements; the others; element i, or d past the end |
-| `T b`, `natAbs z`, `fin s m e` | b is true; the size of z; the float m x 2^e, below 0 where s is true |
-| `λ x. e`, `Type 0`, `⌜ P ⌝` | the function that makes e of x; what a statement, or a type, is one of; P holds |
+| `take n xs`, `drop n xs`, `get_or xs i d` | the first n elements; the others; element i, or d past the end |
+| `T b`, `nat_abs z`, `fin s m e` | b is true; the size of z; the float m x 2^e, below 0 where s is true |
+| `λ x. e`, `Type 0` | the function that makes e of x; what a statement, or a type, is one of |
 """
 
 
