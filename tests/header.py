@@ -81,7 +81,7 @@ def table_is_right():
 
 
 def definition_is_the_same():
-    cases = sorted((int(number), name) for name, number in re.findall(r'^numberOf Why\.(\w+) = (\d+)$', text_of(NUMBERS), re.M))
+    cases = sorted((int(number), name) for name, number in re.findall(r'^number_of Why\.(\w+) = (\d+)$', text_of(NUMBERS), re.M))
     return judged("the proved definition's numbers are the rules'", [] if cases == [row[:2] for row in TABLE] else [str(cases)])
 
 
@@ -388,9 +388,9 @@ def nothing_is_assumed():
 
 
 def arrays_are_only_written(folder):
-    """The optimiser finds that no function reads an element of the arrays that it fills, or keeps their pointers, so that memory which was never written may
-    be passed. Describe hands its pointer on in memory, which counts as keeping it, so of describe the first alone is found. Picture moves greys that it has put
-    into its array, so of picture nothing is found: tests/pictures.py asks with other octets in the array."""
+    """The optimiser finds that no function reads an element of the arrays that it fills, or keeps more of their pointers than whether they are null, so that
+    memory which was never written may be passed. Describe hands its pointer on in memory, which counts as keeping it, so of describe the first alone is
+    found. Picture moves greys that it has put into its array, so of picture nothing is found: tests/pictures.py asks with other octets in the array."""
     found = os.path.join(folder, 'optimised.ll')
     kit.run(kit.tool('clang'), '--target=' + kit.TRIPLES['x86_64'], '-O3', '-S', '-emit-llvm', '-Wno-override-module', '-x', 'ir', module.text('skeptolyr'), '-o', found)
     faults, filled = [], 0
@@ -399,7 +399,7 @@ def arrays_are_only_written(folder):
         named = zip(re.split(r', (?=ptr|i64)', head), parameters(function))
         arrays = [parameter for parameter, name in named if name in ('values', 'presence', 'value', 'numbers', 'position', 'place')]
         filled += len(arrays)
-        found_of = r'\bwriteonly\b' if function == 'skeptolyr_describe' else r'\bwriteonly\b.*\b(captures\(none\)|nocapture\b)'
+        found_of = r'\bwriteonly\b' if function == 'skeptolyr_describe' else r'\bwriteonly\b.*\bcaptures\((none|address_is_null)\)'
         faults += [head] * (not all(re.search(found_of, words) for words in arrays))
     return judged('arrays that are only written', faults + ['%d arrays' % filled] * (filled != 6))
 
