@@ -240,12 +240,7 @@ SEEN = {'section.octets_in': '_ (λ _. (λ x. x.now))', 'section_6.bitmap_in_for
 def outcome_of(function):
     """The one line by which crates/theorems_outcomes may state that a function's outcomes are determined."""
     said = ('SeenDetermined %s.ended ' + SEEN[function] if function in SEEN else 'Determined %s.ended') % function
-    return 'pub %s : %s (λ _. %s.clauses)' % (function.replace('.', '_'), said, function)
-
-
-def with_crates(line):
-    """The line with the crates under their own names, in place of those that it calls them by, which have a - for each _."""
-    return re.sub(r'[\w-]+(?=\.[\w.]+\.(?:ended|clauses)\b)', lambda name: name.group().replace('-', '_'), line)
+    return 'pub %s : %s (λ _ _. %s.clauses)' % (function.replace('.', '_'), said, function)
 
 
 def outcomes_are_determined():
@@ -256,12 +251,12 @@ def outcomes_are_determined():
             continue
         here = believed.file_of(name[len('crates/'):])
         for number, line in enumerate(here.lines, 1):
-            use = re.match(r'use Rattle\.(\w+)\.proofs as (\S+)$', line)
-            if use and use.group(2).replace('-', '_') != use.group(1):
+            use = believed.CONTRACTS.match(line)
+            if use and use.group(2) != use.group(1):
                 yield '%s:%d: %s stands for %s' % (name, number, use.group(2), use.group(1))
-            if 'Determined ' in line and not line.startswith('--') and with_crates(line) not in wanted:
+            if 'Determined ' in line and not line.startswith('--') and line not in wanted:
                 yield '%s:%d: no theorem that is asked for: %s' % (name, number, line)
-            wanted.pop(with_crates(line), None)
+            wanted.pop(line, None)
         for word in ('Determined', 'SeenDetermined'):
             if word in here.defined or (word in here.brought and here.brought[word] != ('theorems_outcomes/specs/Determined.antt', word)):
                 yield '%s: %s is not what it is called' % (name, word)
@@ -333,7 +328,7 @@ def definitions_are_read():
                 use = believed.USE.match(line)
                 if believed.is_counted(line) and number not in read:
                     yield '%s:%d' % (name, number + 1)
-                if re.search(r'\bRattle\.', line) and not re.match(r'use Rattle\.\w+\.proofs as \S+$', line) and not (use and use.group(2) == 'specs'):
+                if re.search(r'\bRattle\.', line) and not (use and use.group(2) == 'specs'):
                     yield '%s:%d: %s' % (name, number + 1, line)
 
 

@@ -33,6 +33,8 @@ OPENS = re.compile(r'\s*(?:abbrev |unfoldable |pub |record |data )')
 FUNCTION = re.compile(r'\s*pub (?:extern "C" )?fn (\w+)')
 SHAPE = re.compile(r'\s*pub (?:struct|enum) (\w+)')
 USE = re.compile(r'(?:ghost )?use Rattle\.(\w+)\.(specs|proofs)\.(.*?)(?:\.\{(.*)\})?(?: as (\S+?))?;?$')
+# The contracts of a crate's functions, which the checker makes of src/.
+CONTRACTS = re.compile(r'use Rattle\.(\w+)\.specs\.contracts as (\S+)$')
 CLAUSE = re.compile(r'\s*(?:requires|ensures)(?: \w+)? \{')
 
 
@@ -71,7 +73,7 @@ class File:
         use = USE.match(line)
         for shape in (own.group(2) or own.group(3)).split(', ') if own else []:
             self.brought[shape] = (own.group(1) + '/src', shape)
-        if not use or use.group(1) not in order():
+        if not use or use.group(1) not in order() or CONTRACTS.match(line):
             return
         crate, folder, path, names, alias = use.groups()
         shape = path.split('.')[1] if path.startswith('declared.') else None
@@ -205,8 +207,8 @@ def characterised():
     found = set()
     for path in glob.glob(os.path.join(TOP, 'crates', 'theorems_*', 'specs', '*.antt')):
         text = '\n'.join(read(path))
-        crates = {alias: crate for crate, alias in re.findall(r'^use Rattle\.(\w+)\.proofs as (\S+)$', text, re.M)}
-        found |= {'%s::%s' % (crates[alias], function) for alias, function in re.findall(r'([\w-]+)\.(\w+)\.clauses', text) if alias in crates}
+        crates = {alias: crate for crate, alias in re.findall('^' + CONTRACTS.pattern, text, re.M)}
+        found |= {'%s::%s' % (crates[alias], function) for alias, function in re.findall(r'(\w+)\.(\w+)\.clauses', text) if alias in crates}
     return found
 
 
