@@ -354,6 +354,18 @@ def shared_library(scratch):
         yield 'its stack can be executed'
 
 
+def archive_calls_memset(scratch):
+    """The archive asks nothing outside itself but memset, and everybody sees of it the header's functions that are not inline alone."""
+    archive = os.path.join(scratch, 'usr', 'lib', 'libskeptolyr.a')
+    symbols = subprocess.run(['nm', archive], stdout=subprocess.PIPE, text=True, check=True).stdout
+    asked = sorted(re.findall(r'^ +[Uw] (\S+)$', symbols, re.M))
+    if asked != ['memset']:
+        yield 'it asks for %s' % asked
+    seen = sorted(re.findall(r'^[0-9a-f]+ [A-TV-Z] (\S+)$', symbols, re.M))
+    if seen != sorted(name for name, declared in DECLARATIONS.items() if not declared.startswith('static ')):
+        yield 'everybody sees %s' % seen
+
+
 # ---- CMake
 
 PROJECT = '''cmake_minimum_required(VERSION 3.13)
@@ -745,7 +757,7 @@ def uninstalls(scratch):
 
 TESTS = [
     installs, installs_again, installs_what_is_built, nothing_old_is_taken, packages, libraries_elsewhere, tells_the_loader, refuses_aloud,
-    links, links_from_a_path_with_spaces, shared_library, cmake_finds, programs_run, examples_compile, packs, packs_the_same_again,
+    links, links_from_a_path_with_spaces, shared_library, archive_calls_memset, cmake_finds, programs_run, examples_compile, packs, packs_the_same_again,
     packs_for_the_other_machine, pages_render, version_is_that_of_the_header, synopses_are_those_of_the_header, pages_name_what_is_there,
     comments_are_told, members_are_told, refusals_are_those_of_the_header, example_in_the_manual, subcommands_are_those_of_the_program,
     pages_show_what_programs_print, uninstalls]

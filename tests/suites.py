@@ -27,7 +27,7 @@ SUITES = [
     Suite('samples', 24, 'the samples: one of each refusal, put to the command and to example programs'),
     Suite('drawing', 16, 'pictures of fields, pixel by pixel'),
     Suite('pictures', 33, 'pictures in shades of grey, octet for octet, and in the readers of others'),
-    Suite('install', 29, 'what make install installs, and its pages against the header'),
+    Suite('install', 30, 'what make install installs, and its pages against the header'),
     Suite('command', 29, 'the command skeptolyr: what each of its subcommands prints, and bad inputs'),
     Suite('nearest', 12, 'one point of a field: by its number, the nearest one to a place, and those of damaged fields'),
     Suite('dump', 10, 'what dump marks, on either side of each rule and on damaged files'),
