@@ -99,8 +99,12 @@ def words_of(line, rattle):
     return set(re.split(r'[\s(){}.;,@"«»:&\[\]]+' if rattle else r'[\s(){}.;,@"«»]+', line)) | {word for word in ('[]', '()') if word in line}
 
 
+# The traits of std that are brought for their methods, which alone are said.
+METHODS = {'Read': {'read', 'read_exact', 'read_to_end'}, 'Write': {'write', 'write_all'}}
+
+
 def unused_names():
-    """No `use` line brings a name that its file does not say."""
+    """No `use` line brings a name that its file does not say; of a trait a method is said."""
     for name in sources('.antt', '.rt'):
         lines = lines_of(name)
         if name.endswith('/Lib.antt'):
@@ -117,7 +121,7 @@ def unused_names():
             brought = [part.split(' as ')[-1].strip() for part in names.split(',')] if names else [alias or re.split(r'[.:]', path)[-1]]
             for word in brought:
                 parts = [part for part in word.split('◌') if part]
-                said = word in body or ('◌' in word and all(part in body for part in parts))
+                said = word in body or ('◌' in word and all(part in body for part in parts)) or METHODS.get(word, set()) & body
                 if not said and not word.startswith('syntax'):
                     yield '%s:%d: %s' % (name, number, word)
 
