@@ -2,7 +2,7 @@
 // lines with computations of their own.
 #![tactic(auto)]
 
-ghost use Rattle.std.specs.Prelude.{◌≡◌, length};
+ghost use Rattle.std.specs.Prelude.{◌≡◌, ◌≤◌, length};
 
 use calendar::{Later, Order, Reading, Unit};
 use doubles::Rebuilt;
@@ -110,11 +110,22 @@ fn answer_all(rt: &impl Print, input: &[u8]) -> io::Result<()> {
     Ok(())
 }
 
-// At most so many octets of the input are read.
-const MOST_OCTETS: u64 = 65536;
+// Reads until the run is full, the input ends or a read fails, and answers how many octets it has put at the start of the run.
+fn read_full<R: Read>(input: &mut R, run: &mut [u8]) -> usize
+    ensures { result ≤ length run.new }
+{
+    let mut got: usize = 0;
+    while got < run.len() {
+        match input.read(&mut run[got..]) {
+            Ok(0) | Err(_) => break,
+            Ok(more) => got += more,
+        }
+    }
+    got
+}
 
 fn main(rt: HostRuntime) -> io::Result<()> {
-    let mut input = Vec::new(rt.alloc());
-    rt.stdin().take(MOST_OCTETS).read_to_end(&mut input)?;
-    answer_all(&rt, &input)
+    let mut input = [0u8; 65536];
+    let got = read_full(&mut rt.stdin(), &mut input);
+    answer_all(&rt, &input[..got])
 }

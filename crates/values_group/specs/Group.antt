@@ -1,5 +1,5 @@
 -- RULES, "Section 7": how the code works out the integers X of one group: in numbers without a sign, and only while each is in its range.
-use Rattle.std.specs.Prelude.{◌≡◌, ℕ, zero, suc, ◌+◌, ◌-◌, ◌*◌, ◌%◌, ◌^◌, ◌<◌, ◌≤◌, Bool, true, false, cond, List, nat_lt}
+use Rattle.std.specs.Prelude.{◌≡◌, ℕ, zero, suc, ◌+◌, ◌-◌, ◌*◌, ◌%◌, ◌^◌, ◌≤◌, Bool, true, false, cond, List, nat_lt}
 use Rattle.bits.specs.Bits.{bits_at}
 use Rattle.values_group.specs.declared.Group as declared
 use Rattle.values_group.specs.declared.Latest.{Latest}

@@ -1,4 +1,5 @@
 -- `doubles::rebuild_one` meets its contract: each test is one part of `is_rebuildable`, and behind them the packing record rebuilds X.
+use Prim.Native.Nat.{◌≤◌}
 use mathlib.Core.Path.{◌≡◌, sym, ap, ◌∙◌, subst}
 use mathlib.Core.Bool.{Bool, true}
 use lib.Dec.{T}
@@ -31,23 +32,23 @@ returns-then-d-gt22 c =
     ∙ simp (is_finite (goal.at.returns-then-d-gt22 c).Else-not-is_finite, le-leb _ _ c.if-e-gt127.false, lt-leb _ _ c.if-d-gt22.true)
 
 -- Behind the third test all turns on X.
-by_x : (c : Else-d-gt22) → let a = c.args in is_rebuildable a.r a.e a.d a.x ≡ is_in_range (whole a.x)
-by_x c =
+by_x : (c : Else-d-gt22) → c.args.d.size ≤ 22 → let a = c.args in is_rebuildable a.r a.e a.d a.x ≡ is_in_range (whole a.x)
+by_x c few =
     let is_finite : (finite (of_bits binary32 c.args.r) ≡ true) = sym c.is_finite.ensures ∙ c.if-not-is_finite.false in
-    simp (is_finite, le-leb _ _ c.if-e-gt127.false, le-leb _ _ c.if-d-gt22.false)
+    simp (is_finite, le-leb _ _ c.if-e-gt127.false, le-leb _ _ few)
 
 pub returns-then-x-gt2147483647 : goal.returns-then-x-gt2147483647
 returns-then-x-gt2147483647 c =
     let a = c.args in
     c.not_rebuildable-then-x-gt2147483647.ensures
-    ∙ refused a.r a.e a.d a.x (by_x (goal.at.returns-then-x-gt2147483647 c).Else-d-gt22 ∙ too_large a.x.negative a.x.size c.if-x-gt2147483647.true)
+    ∙ refused a.r a.e a.d a.x (by_x (goal.at.returns-then-x-gt2147483647 c).Else-d-gt22 c.if-d-gt22.false ∙ too_large a.x.negative a.x.size c.if-x-gt2147483647.true)
 
 pub returns-then-x-ne0 : goal.returns-then-x-ne0
 returns-then-x-ne0 c =
     let a = c.args in
     c.not_rebuildable-then-x-ne0.ensures
     ∙ refused a.r a.e a.d a.x
-    (by_x (goal.at.returns-then-x-ne0 c).Else-d-gt22 ∙ ap (λ (b : Bool). is_in_range (whole_of b a.x.size)) c.if-x.true ∙ below_zero a.x.size c.if-x-ne0.true)
+    (by_x (goal.at.returns-then-x-ne0 c).Else-d-gt22 c.if-d-gt22.false ∙ ap (λ (b : Bool). is_in_range (whole_of b a.x.size)) c.if-x.true ∙ below_zero a.x.size c.if-x-ne0.true)
 
 pub packing_of-requires : goal.packing_of-requires
 packing_of-requires c =
@@ -61,4 +62,4 @@ pub returns : goal.returns
 returns c =
     let a = c.args in
     ap Double (c.rebuild.ensures ∙ ap (λ (p : Packing). rebuilt p a.x.size) c.packing_of.ensures ∙ by_packing a.r a.e a.d a.x.size)
-    ∙ answered a.r a.e a.d a.x (by_x (goal.at.returns c).Else-d-gt22 ∙ is_packed_lem (goal.at.returns c).Joined-x)
+    ∙ answered a.r a.e a.d a.x (by_x (goal.at.returns c).Else-d-gt22 c.if-d-gt22.false ∙ is_packed_lem (goal.at.returns c).Joined-x)

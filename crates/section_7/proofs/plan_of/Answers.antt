@@ -1,6 +1,6 @@
 -- `section_7::plan_of` meets its contract: the loop keeps the sums over the groups that it has passed, and a group that is not sound, or one
 -- that has too many values, leaves no plan. The measure is how many groups are left.
-use Prim.Native.Nat.{◌+◌, ◌*◌, ◌^◌, ◌<◌}
+use Prim.Native.Nat.{◌≤◌, ◌+◌, ◌*◌, ◌^◌, ◌<◌}
 use mathlib.Core.Path.{sym}
 use native.Mathlib.Omega.{arith}
 use Rattle.section_7.proofs.Planned.{planned_none, too_wide, empty, too_many, next_fits, planned_more, plan_found, too_few}
@@ -20,18 +20,18 @@ pub returns-then-n-values : goal.returns-then-n-values
 returns-then-n-values c = sym (too_many _ _ _ _ c.loop-i-test.true (omega arith))
 
 -- The bits with those of the group fit.
-fits : (c : Else-n-values) →
+fits : (c : Else-n-values) → c.width_of-width.result ≤ 31 →
     let before = c.loop-i in
     before.bits + c.width_of-width.result * c.length_of-length.result < 2 ^ 37
-fits c =
+fits c narrow =
     let before = c.loop-i in
-    next_fits _ _ _ _ before.invariant c.length_of-length.result (omega arith) c.if-width-gt31.false c.if-n-values.false
+    next_fits _ _ _ _ before.invariant c.length_of-length.result (omega arith) narrow c.if-n-values.false
 
 pub overflow_mul-bits : goal.overflow_mul-bits
-overflow_mul-bits c = omega (arith, fits (goal.at.overflow_mul-bits c).Else-n-values)
+overflow_mul-bits c = omega (arith, fits (goal.at.overflow_mul-bits c).Else-n-values c.if-width-gt31.false)
 
 pub overflow_add-bits : goal.overflow_add-bits
-overflow_add-bits c = omega (arith, fits (goal.at.overflow_add-bits c).Else-n-values)
+overflow_add-bits c = omega (arith, fits (goal.at.overflow_add-bits c).Else-n-values c.if-width-gt31.false)
 
 pub loop-i-preserved : goal.loop-i-preserved
 loop-i-preserved c =
