@@ -51,7 +51,7 @@ UNCHANGED = {
 }
 
 # Changes for which one row alone is tried: they make a count of hours pass 2^32, and other rows would count its days, one by one.
-ALONE = {('product_definition_at', 1, -1): 'forecast_octets', ('interval_of', 2, -1): 'lengthOctets'}
+ALONE = {('product_definition_at', 1, -1): 'forecast_octets', ('interval_of', 2, -1): 'length_octets'}
 
 NUMBER = re.compile(r'(?<![\w.·-])(0x[0-9a-f_]+|[0-9][0-9_]*)(?![\w-])(?! =)')
 
