@@ -324,12 +324,14 @@ def mark(change, files):
 
 def judge_all(changes):
     """The same for all changes, several at a time. What target/ remembers of the same trials is not tried again. The scratch crates stand outside this tree,
-    since `rt ci` refuses a file of proofs that it does not read."""
+    each in a tree of its own, since `rt ci` refuses a file of proofs that it does not read."""
     with tempfile.TemporaryDirectory() as scratch:
-        crates = ['limits_%d' % worker for worker in range(JOBS)]
-        with open(os.path.join(scratch, 'crates.txt'), 'w', encoding='ascii') as text:
-            text.write(''.join(crate + ':\n' for crate in crates))
-        return judge_in([os.path.join(scratch, 'crates', crate) for crate in crates], changes)
+        folders = [os.path.join(scratch, str(worker), 'crates', 'limits') for worker in range(JOBS)]
+        for folder in folders:
+            os.makedirs(folder)
+            with open(os.path.join(folder, '..', '..', 'crates.txt'), 'w', encoding='ascii') as text:
+                text.write('limits:\n')
+        return judge_in(folders, changes)
 
 
 def judge_in(folders, changes):
