@@ -413,7 +413,7 @@ def sample_is_the_sample():
 FOR_C = ['README.md', 'include/skeptolyr.h', 'samples/README.md', 'docs/EVIDENCE.md']
 TEXTS = [name for name in FILES if name in FOR_C or re.fullmatch(r'(CONTRIBUTING|tests/README|docs/(?!SPEC)\w+)\.md|docs/man/.*\.in', name)]
 # A word, and the plainer one.
-PLAINER = {r'\bbehind\b': 'after', r'\bno sum\b': 'no checksum'}
+PLAINER = {r'(?<!-)\bbehind\b': 'after', r'\bno sum\b': 'no checksum'}
 PLAINER_FOR_C = {r'\b(lent|lends?)\b(?!\.c)': 'passed', r'\b(the|two|both|a|each|larger) runs?\b': 'array', r'\bowes?\b': 'must guarantee'}
 
 
