@@ -16,7 +16,7 @@ const ROOM: u64 = 64;
 const PICTURE_ROOM: u64 = 96;
 const REBUILDS: usize = 1000;
 /// The steps that __main__.py gives the interpreter are enough for a few more than so many files.
-const FILES: u64 = 80;
+const FILES: u64 = 90;
 
 fn hexadecimal(octets: &[u8]) -> String {
     octets.iter().map(|octet| format!("{:02x}", octet)).collect()
