@@ -187,7 +187,8 @@ def without_encoder(test):
 def cases(command, fields):
     """The fields encoded, each by a process of its own, and decoded in one run."""
     files = [encoded.file_of(command, field) for field in fields]
-    return list(map(Case, fields, files, decoded(archive.program('skeptolyr', os.path.join('tests', 'peers', 'skeptolyr.c')), files)))
+    reader = archive.program('skeptolyr', os.path.join('tests', 'peers', 'skeptolyr.c'), name='peers-skeptolyr')
+    return list(map(Case, fields, files, decoded(reader, files)))
 
 
 def results():

@@ -122,7 +122,7 @@ class Skeptolyr(Program):
             self.flags = [self.given]
             super().make()
         else:
-            self.command = archive.program('skeptolyr', os.path.join('tests', 'peers', 'skeptolyr.c'))
+            self.command = archive.program('skeptolyr', os.path.join('tests', 'peers', 'skeptolyr.c'), name='peers-skeptolyr')
 
     def sayings(self, numbers):
         """What is compared of a description's numbers, as told.h has them, with zeros for those that a grid in degrees lacks."""
