@@ -1,52 +1,18 @@
 -- The laws of the numbers that are read four at a time: how many there are in each case, and that so many can be.
-use mathlib.Core.Path.{◌≡◌, refl, sym, subst}
+use mathlib.Core.Path.{◌≡◌, sym, subst}
 use mathlib.Core.Bool.{cond}
 use Prim.Native.Nat.{ℕ, ◌+◌, ◌-◌, ◌*◌, ◌/◌, ◌≤◌, ◌<◌}
-use native.Mathlib.Nat.{mul-le-mul}
 use native.Mathlib.Omega.{arith}
-use borrow.Author.Tests.{ltb-false, leb-true, lt-ltb, le-ltb, le-leb, lt-leb}
+use borrow.Author.Tests.{ltb-false, leb-true}
 use lib.Dec.{ltb}
-use Rattle.octets.proofs.Cases.{split, chosen}
-use Rattle.bits.specs.Fours.{leaves_eight, fours_in, Foured}
-
--- The bits of the numbers that are read in fours are few enough to be counted.
-pub foured_bits : {numbers b : ℕ} → numbers ≤ 4294967296 → b ≤ 28 → numbers * b ≤ 120259084288
-foured_bits few narrow = mul-le-mul few narrow
+use Rattle.octets.proofs.Cases.{split}
+use mathlib.Core.List.{List, [], ◌∷◌}
+use Rattle.std.specs.List.{slice_index}
+use Rattle.std.proofs.lemmas.List.FromFn.{get_or-map-range_with_len}
+use Rattle.bits.specs.Bits.{bits_at}
+use Rattle.bits.specs.Fours.{leaves_eight, fours_in, Foured, numbers_at}
 
 module _ (octets from b count : ℕ) where
-  -- Numbers of more bits than half a window are not read in fours.
-  pub wide_none : 28 < b → 0 ≡ fours_in octets from b count
-  unfolding fours_in
-  wide_none wide = rw (lt-ltb 28 b wide) refl
-
-  module _ (narrow : b ≤ 28) where
-    -- Where eight octets are left behind all numbers, all are.
-    pub all_inside : (from + 4 * (count / 4) * b) / 8 + 8 ≤ octets → count / 4 ≡ fours_in octets from b count
-    unfolding fours_in
-    all_inside left = rw (le-ltb 28 b narrow, le-leb ((from + 4 * (count / 4) * b) / 8 + 8) octets left) refl
-
-    module _ (short : octets < (from + 4 * (count / 4) * b) / 8 + 8) where
-      -- Where there are fewer than 64 numbers, none are left before the last 64.
-      pub few_none : count < 64 → 0 ≡ fours_in octets from b count
-      unfolding fours_in
-      few_none few =
-          let fewer = (count - 64) / 4 in
-          rw (le-ltb 28 b narrow, lt-leb ((from + 4 * (count / 4) * b) / 8 + 8) octets short)
-          (chosen (λ (n : ℕ). 0 ≡ n) (leaves_eight octets from b fewer) fewer 0 (omega arith) refl)
-
-      -- Else all but the last 64 are, where eight octets are left behind these.
-      pub fewer_inside : (from + 4 * ((count - 64) / 4) * b) / 8 + 8 ≤ octets → (count - 64) / 4 ≡ fours_in octets from b count
-      unfolding fours_in
-      fewer_inside left =
-          let fewer = (count - 64) / 4 in
-          rw (le-ltb 28 b narrow, lt-leb ((from + 4 * (count / 4) * b) / 8 + 8) octets short, le-leb ((from + 4 * fewer * b) / 8 + 8) octets left) refl
-
-      pub none_inside : octets < (from + 4 * ((count - 64) / 4) * b) / 8 + 8 → 0 ≡ fours_in octets from b count
-      unfolding fours_in
-      none_inside shorter =
-          let fewer = (count - 64) / 4 in
-          rw (le-ltb 28 b narrow, lt-leb ((from + 4 * (count / 4) * b) / 8 + 8) octets short, lt-leb ((from + 4 * fewer * b) / 8 + 8) octets shorter) refl
-
   -- No fours at all can be read.
   none_foured : Foured octets from b count 0
   none_foured = record { few = omega arith; narrow = λ some. absurd (omega arith); inside = λ some. absurd (omega arith) }
@@ -72,3 +38,14 @@ module _ (octets from b count : ℕ) where
   -- What is counted can be read in fours: the law that the callers cite of the answer they were given.
   pub fours_foured : {fours : ℕ} → fours ≡ fours_in octets from b count → Foured octets from b count fours
   fours_foured counted = subst (Foured octets from b count) (sym counted) all_foured
+
+-- Number i of several numbers, one behind the other, and all that two and four of them are.
+module _ (run : List ℕ) (at b : ℕ) where
+  pub number_of_several : (k i : ℕ) → i < k → slice_index (numbers_at run at b k) i ≡ bits_at run (at + i * b) b
+  number_of_several k i h = get_or-map-range_with_len (λ i. bits_at run (at + i * b) b) 0 k i i 0 h (omega arith)
+
+  pub two_found : numbers_at run at b 2 ≡ bits_at run at b ∷ bits_at run (at + b) b ∷ []
+  two_found = grind arith
+
+  pub four_found : numbers_at run at b 4 ≡ bits_at run at b ∷ bits_at run (at + b) b ∷ bits_at run (at + 2 * b) b ∷ bits_at run (at + 3 * b) b ∷ []
+  four_found = grind arith

@@ -1,14 +1,13 @@
 -- The laws of the number of b bits, each once, over b: its bound, its parts, and that it is cut out of a window of octets.
 use mathlib.Core.Path.{◌≡◌, refl, sym, ap, ap₂, ◌∙◌}
 use Prim.Native.Nat.{ℕ, zero, suc, ◌+◌, ◌-◌, ◌*◌, ◌/◌, ◌%◌, ◌^◌, ◌≤◌, ◌<◌}
-use native.Mathlib.Nat.{add-zero, add-suc, add_assoc, mul_assoc, add-mul, one-mul, two-mul, pow-suc, suc-mul, div-add-mod', mod-eq_of_lt}
-use native.Mathlib.Nat.{lt_of_lt_of_le, lt_of_le_of_lt, le_of_lt, mul-le-mul_left, mul-lt-mul_of_pos_right}
+use native.Mathlib.Nat.{add-zero, add-suc, add_assoc, mul_assoc, add-mul, one-mul, pow-suc, suc-mul, div-add-mod', mod-eq_of_lt, lt_of_lt_of_le}
 use native.Mathlib.Numerals.{add-one}
 use native.Mathlib.Omega.{arith}
 use mathlib.Core.List.{List}
 use lib.Arith.{digits_lt, digits_div, digits_mod}
 use lib.ListN.{get_or}
-use lib.Pow.{pow_pos, pow_mono, pow-lt, high, low, shr-shr}
+use lib.Pow.{pow_mono, pow-lt, high, low, shr-shr}
 use Rattle.octets.specs.Numbers.{number_at}
 use Rattle.bits.specs.Bits.{bit_at, bits_at, octets_of}
 
@@ -21,6 +20,10 @@ pub bits_lt : (run : List ℕ) (at b : ℕ) → bits_at run at b < 2 ^ b
 unfolding bits_at
 bits_lt run at zero = omega arith
 bits_lt run at (suc b) = rw (pow-suc 2 b) (digits_lt (bits_lt run at b) (bit_lt run (at + b)))
+
+-- So a number of at most 32 bits fits 32.
+pub bits_fit : (run : List ℕ) (at b : ℕ) → b ≤ 32 → bits_at run at b < 2 ^ 32
+bits_fit run at b h = lt_of_lt_of_le (bits_lt run at b) (pow_mono h)
 
 -- One bit more.
 pub bits_more : (run : List ℕ) (at b : ℕ) → bits_at run at (b + 1) ≡ bits_at run at b * 2 + bit_at run (at + b)
@@ -85,43 +88,36 @@ bits_in_octets run at b octets h =
     ∙ bits_in_window run (at / 8 * 8) 64 (at % 8) b h
     ∙ ap (λ (i : ℕ). bits_at run i b) (div-add-mod' at 8)
 
--- Of two numbers of b bits in one of twice as many, the first is the high part and the second the low part.
-pub first_of_two : (run : List ℕ) (at b : ℕ) → bits_at run at (2 * b) / 2 ^ b ≡ bits_at run at b
-first_of_two run at b = rw (two-mul b, bits_add run at b b) (high (bits_at run at b) b (bits_lt run (at + b) b))
-
-pub second_of_two : (run : List ℕ) (at b : ℕ) → bits_at run at (2 * b) % 2 ^ b ≡ bits_at run (at + b) b
-second_of_two run at b = rw (two-mul b, bits_add run at b b) (low (bits_at run at b) b (bits_lt run (at + b) b))
-
--- Of four numbers of b bits in such a window, which is shifted down until the last of them stands lowest, the one behind `skip` bits is found by a
+-- Of several numbers of b bits in such a window, which is shifted down until the last of them stands lowest, the one behind `skip` bits is found by a
 -- further shift.
-pub one_of_four : (run : List ℕ) (at b skip down : ℕ) → ((i : ℕ) → get_or run i 0 < 256) → b ≤ 14 → skip + down ≡ 3 * b
-    → number_at run (at / 8) 8 / 2 / 2 ^ (63 - at % 8 - 4 * b) / 2 ^ down % 2 ^ b ≡ bits_at run (at + skip) b
-one_of_four run at b skip down octets narrow whole =
+pub one_of_several : (run : List ℕ) (at b whole skip down : ℕ) → ((i : ℕ) → get_or run i 0 < 256) → whole ≤ 56 → skip + b + down ≡ whole
+    → number_at run (at / 8) 8 / 2 / 2 ^ (63 - at % 8 - whole) / 2 ^ down % 2 ^ b ≡ bits_at run (at + skip) b
+one_of_several run at b whole skip down octets narrow parts =
     let window : ℕ = number_at run (at / 8) 8 in
-    let shift : 1 + (63 - at % 8 - 4 * b) + down ≡ 64 - (at % 8 + skip) - b = omega arith in
+    let shift : 1 + (63 - at % 8 - whole) + down ≡ 64 - (at % 8 + skip) - b = omega arith in
     let place : at / 8 * 8 + (at % 8 + skip) ≡ at + skip = omega arith in
-    ap (λ (w : ℕ). w % 2 ^ b) (ap (λ (w : ℕ). w / 2 ^ down) (shr-shr window 1 (63 - at % 8 - 4 * b)) ∙ shr-shr window (1 + (63 - at % 8 - 4 * b)) down ∙ ap (λ (k : ℕ). window / 2 ^ k) shift)
+    let lowest : window / 2 / 2 ^ (63 - at % 8 - whole) / 2 ^ down ≡ window / 2 ^ (64 - (at % 8 + skip) - b) =
+    ap (λ (w : ℕ). w / 2 ^ down) (shr-shr window 1 (63 - at % 8 - whole)) ∙ shr-shr window (1 + (63 - at % 8 - whole)) down ∙ ap (λ (k : ℕ). window / 2 ^ k) shift in
+    ap (λ (w : ℕ). w % 2 ^ b) lowest
     ∙ ap (λ (w : ℕ). w / 2 ^ (64 - (at % 8 + skip) - b) % 2 ^ b) (sym (bits_of_octets run (at / 8) 8 octets))
     ∙ bits_in_window run (at / 8 * 8) 64 (at % 8 + skip) b (omega arith)
     ∙ ap (λ (i : ℕ). bits_at run i b) place
 
+-- Of k numbers of b bits, those before number i, number i and those behind it are all.
+pub numbers_around : (i k b : ℕ) → i < k → i * b + b + (k - 1 - i) * b ≡ k * b
+numbers_around i k b h =
+    let all : i + 1 + (k - 1 - i) ≡ k = omega arith in
+    omega (arith, ap (λ (n : ℕ). n * b) all, add-mul (i + 1) (k - 1 - i) b, add-mul i 1 b, one-mul b)
+
 -- A 1 that is shifted up by less than 64 is a power of two.
 pub one_shifted : {b : ℕ} → b < 64 → 1 * 2 ^ b % 2 ^ 64 ≡ 2 ^ b
 one_shifted {b} h = ap (λ (n : ℕ). n % 2 ^ 64) (one-mul (2 ^ b)) ∙ mod-eq_of_lt (pow-lt h)
-
--- A number that is not 0 is its own remainder by a greater one, which then is not 0 either.
-pub remains : {n m : ℕ} → 0 < n → n < m → 0 < n % m
-remains h k = rw (mod-eq_of_lt k) h
 
 -- A half, a shift down by 63 - r - b and a remainder cut those bits out of a window of 64.
 pub cut_by_shifts : (window r b : ℕ) → r + b ≤ 63 → window / 2 / 2 ^ (63 - r - b) % (1 * 2 ^ b % 2 ^ 64) ≡ window / 2 ^ (64 - r - b) % 2 ^ b
 cut_by_shifts window r b h =
     let down : 1 + (63 - r - b) ≡ 64 - r - b = omega arith in
     ap₂ (λ (m n : ℕ). m % n) (shr-shr window 1 (63 - r - b) ∙ ap (λ (k : ℕ). window / 2 ^ k) down) (one_shifted (omega arith))
-
--- A product of two numbers of 32 bits fits 64.
-pub product_fits : {a b : ℕ} → a < 2 ^ 32 → b < 2 ^ 32 → a * b < 2 ^ 64
-product_fits {a} h k = lt_of_le_of_lt (mul-le-mul_left a (le_of_lt k)) (mul-lt-mul_of_pos_right h (pow_pos 32))
 
 -- The octets of so many bits hold them, and no fewer octets do.
 pub octets_hold : (bits : ℕ) → bits ≤ 8 * octets_of bits

@@ -1,8 +1,8 @@
 -- RULES, "Section 7": how many numbers of a run are read four at a time, from windows of eight octets. It is a matter of speed alone: the numbers are the
 -- same.
-use Rattle.std.specs.Prelude.{ℕ, ◌+◌, ◌-◌, ◌*◌, ◌/◌, ◌≤◌, ◌≡◌, Bool, cond, List, ltb, leb}
+use Rattle.std.specs.Prelude.{ℕ, ◌+◌, ◌-◌, ◌*◌, ◌/◌, ◌≤◌, Bool, cond, List, map, ltb, leb}
+use Rattle.std.specs.List.{range_with_len}
 use Rattle.bits.specs.Bits.{bits_at}
-use Rattle.bits.specs.declared.Four.{Four}
 
 -- Behind so many fours of numbers of b bits, which lie one behind the other from bit `from` on, eight octets are left.
 abbrev pub leaves_eight : (octets from b fours : ℕ) → Bool
@@ -22,9 +22,6 @@ pub record Foured (octets from b count fours : ℕ) : Type 0 where
   pub narrow : 1 ≤ fours → b ≤ 28
   pub inside : 1 ≤ fours → (from + 4 * fours * b) / 8 + 8 ≤ octets
 
--- Four numbers of b bits, one behind the other from bit `at` on.
-pub record FourFound (run : List ℕ) (at b : ℕ) (four : Four) : Type 0 where
-  pub first : four.first ≡ bits_at run at b
-  pub second : four.second ≡ bits_at run (at + b) b
-  pub third : four.third ≡ bits_at run (at + 2 * b) b
-  pub fourth : four.fourth ≡ bits_at run (at + 3 * b) b
+-- K numbers of b bits, one behind the other from bit `at` on.
+abbrev pub numbers_at : List ℕ → (at b k : ℕ) → List ℕ
+numbers_at run at b k = map (λ i. bits_at run (at + i * b) b) (range_with_len 0 k)

@@ -1,17 +1,12 @@
 -- Words are added bit by bit and no bit is lost: at each place three digits make one of the sum and one of the carry, as where they are added by hand.
 -- So the ones of three words are those of the sum and twice those of the carry.
 use mathlib.Core.Path.{◌≡◌, refl, ap, ap₂, ◌∙◌}
-use mathlib.Core.List.{List}
 use Prim.Native.Nat.{ℕ, zero, suc, ◌+◌, ◌*◌, ◌/◌, ◌%◌, ◌^◌, ◌<◌}
 use native.Mathlib.Nat.{pow-suc}
 use native.Mathlib.Omega.{arith}
 use lib.Arith.{lt-one}
 use lib.Bits.{bit_and, bit_or, bit_xor, and_shr, or_shr, xor_shr, and_mod, or_mod, xor_mod}
 use lib.Count.{ones, ones_step}
-use Rattle.bits_ones.specs.Ones.{ones_before}
-use Rattle.bits_ones.specs.Counted.{added_ones, counted}
-use Rattle.bits_ones.specs.declared.Added.{Added}
-use Rattle.bits_ones.specs.declared.Tally.{Tally}
 
 abbrev sum_bits : ℕ → ℕ → ℕ → ℕ
 sum_bits a b c = bit_xor (bit_xor a b) c
@@ -72,22 +67,3 @@ ones_added (suc k) a b c ha hb hc =
     let rest = ones_added k (a / 2) (b / 2) (c / 2) (half_lt k a ha) (half_lt k b hb) (half_lt k c hc) in
     let lowest = digits_added (a % 2) (b % 2) (c % 2) (omega arith) (omega arith) (omega arith) in
     omega (arith, ones_of_sum a b c, ones_of_carry a b c, rest, lowest, ones_step a, ones_step b, ones_step c)
-
--- Eight words are added to a tally, two at a time from octet `at` of the run on: `first` to `fourth` have the ones of the words and carries that count
--- twice, `fifth` and `sixth` add these up, and `last` adds up the carries of these two, which count four times.
-pub tallied : (run : List ℕ) (at : ℕ) (t : Tally) (first second third fourth fifth sixth last : Added) →
-    ones_before run (8 * at) + added_ones first ≡ ones_before run (8 * (at + 16)) + ones t.ones →
-    ones_before run (8 * (at + 16)) + added_ones second ≡ ones_before run (8 * (at + 16 + 16)) + ones first.sum →
-    ones_before run (8 * (at + 32)) + added_ones third ≡ ones_before run (8 * (at + 32 + 16)) + ones second.sum →
-    ones_before run (8 * (at + 48)) + added_ones fourth ≡ ones_before run (8 * (at + 48 + 16)) + ones third.sum →
-    added_ones fifth ≡ ones t.twos + ones first.carry + ones second.carry →
-    added_ones sixth ≡ ones fifth.sum + ones third.carry + ones fourth.carry →
-    added_ones last ≡ ones t.fours + ones fifth.carry + ones sixth.carry →
-    ones_before run (8 * at) + counted (record { ones = fourth.sum; twos = sixth.sum; fours = last.sum; eights = t.eights + ones last.carry })
-    ≡ ones_before run (8 * (at + 64)) + counted t
-tallied run at t first second third fourth fifth sixth last one two three four five six seven =
-    let behind : ℕ → ℕ = λ k. ones_before run (8 * k) in
-    let to-third : behind (at + 16 + 16) ≡ behind (at + 32) = ap behind (omega arith) in
-    let to-fourth : behind (at + 32 + 16) ≡ behind (at + 48) = ap behind (omega arith) in
-    let to_end : behind (at + 48 + 16) ≡ behind (at + 64) = ap behind (omega arith) in
-    omega (arith, to-third, to-fourth, to_end, one, two, three, four, five, six, seven)

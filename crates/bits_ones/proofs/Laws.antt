@@ -2,13 +2,12 @@
 use mathlib.Core.Path.{◌≡◌, refl, ap, ◌∙◌}
 use mathlib.Core.List.{List}
 use Prim.Native.Nat.{ℕ, zero, suc, ◌+◌, ◌*◌, ◌≤◌, ◌<◌}
-use native.Mathlib.Nat.{add-zero, add-suc, lt_of_lt_of_le}
+use native.Mathlib.Nat.{add-zero, add-suc}
 use native.Mathlib.Numerals.{add-one}
 use native.Mathlib.Omega.{arith}
-use lib.Count.{ones, ones_cat, ones-le}
+use lib.Count.{ones, ones_cat}
 use lib.ListN.{get_or}
 use Rattle.octets.specs.Numbers.{number_at}
-use Rattle.octets.proofs.Laws.{number_fits, fits_eight}
 use Rattle.bits.specs.Bits.{bit_at, bits_at}
 use Rattle.bits.proofs.Laws.{bit_lt, bits_of_octets}
 use Rattle.bits_ones.specs.Ones.{ones_before}
@@ -65,15 +64,3 @@ ones_of_word run i octets =
     ap (ones_before run) next
     ∙ ones_of_eight run (8 * i) octets
     ∙ ap (λ (from : ℕ). ones_before run from + ones (number_at run (8 * i) 8)) start
-
--- At most 64 bits of a word are set.
-pub ones_in_word : (run : List ℕ) (from : ℕ) → ((k : ℕ) → get_or run k 0 < 256) → ones (number_at run from 8) ≤ 64
-ones_in_word run from octets = ones-le 64 (number_at run from 8) (lt_of_lt_of_le (number_fits run from 8 octets) (fits_eight 8 (omega arith)))
-
--- Where the bits of the first i eights of words are counted, and then those of eight words more, those of i + 1 eights are.
-pub ones_of_eights : (run : List ℕ) (i counted now : ℕ) → counted ≡ ones_before run (512 * i) →
-    ones_before run (8 * (64 * i)) + now ≡ ones_before run (8 * (64 * i + 64)) + counted → now ≡ ones_before run (512 * (i + 1))
-ones_of_eights run i counted now before more =
-    let start : ones_before run (8 * (64 * i)) ≡ ones_before run (512 * i) = ap (ones_before run) (omega arith) in
-    let end : ones_before run (8 * (64 * i + 64)) ≡ ones_before run (512 * (i + 1)) = ap (ones_before run) (omega arith) in
-    omega (arith, before, more, start, end)

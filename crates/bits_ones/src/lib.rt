@@ -17,7 +17,7 @@ pub struct Added {
 
 // Bits counted by places: those set in `ones` count once, in `twos` twice and in `fours` four times, and `eights` have been found that count
 // eight times.
-#[derive(Clone, Copy)]
+#[derive(Clone, Copy, Default)]
 pub struct Tally {
     pub ones: u64,
     pub twos: u64,
@@ -59,7 +59,7 @@ fn with_eight(run: &[u8], at: usize, tally: Tally) -> Tally
         ones: d.sum,
         twos: f.sum,
         fours: g.sum,
-        eights: tally.eights + u64::count_ones(g.carry) as usize,
+        eights: tally.eights + g.carry.count_ones() as usize,
     }
 }
 
@@ -68,27 +68,21 @@ fn total(tally: Tally) -> usize
     requires { counted tally < 2 ^ 64 }
     ensures { result ≡ counted tally }
 {
-    let ones = u64::count_ones(tally.ones) as usize;
-    let twos = u64::count_ones(tally.twos) as usize;
-    let fours = u64::count_ones(tally.fours) as usize;
+    let ones = tally.ones.count_ones() as usize;
+    let twos = tally.twos.count_ones() as usize;
+    let fours = tally.fours.count_ones() as usize;
     ones + 2 * twos + 4 * fours + 8 * tally.eights
 }
 
 // How many of the first 512 x `eights` bits are set.
+#[tactic(auto, using(crate::proofs::Laws::ones_most), unfolding(crate::specs::Ones::ones_before))]
 fn ones_in_eights(run: &[u8], eights: usize) -> usize
     requires { (64 * eights ≤ length run.now) × (512 * eights < 2 ^ 64) }
     ensures { result ≡ ones_before run.now (512 * eights) }
 {
-    let mut tally = Tally {
-        ones: 0,
-        twos: 0,
-        fours: 0,
-        eights: 0,
-    };
-    let mut i: usize = 0;
-    while i < eights {
+    let mut tally = Tally::default();
+    for i in 0..eights {
         tally = with_eight(run, 64 * i, tally);
-        i += 1;
     }
     total(tally)
 }
@@ -99,15 +93,14 @@ fn ones_in_words(run: &[u8], from: usize, end: usize) -> usize
     ensures { ones_before run.now (64 * from) + result ≡ ones_before run.now (64 * end) }
 {
     let mut ones: usize = 0;
-    let mut i = from;
-    while i < end {
-        ones += u64::count_ones(bits::eight(run, 8 * i)) as usize;
-        i += 1;
+    for i in from..end {
+        ones += bits::eight(run, 8 * i).count_ones() as usize;
     }
     ones
 }
 
 // How many of the first `n` bits are set: eight words at a time, for a bitmap is counted at every question about its field.
+#[tactic(auto, using(crate::proofs::Laws::ones_most, crate::proofs::Laws::ones_more, bits::proofs::Laws::bit_lt))]
 pub fn ones_before(run: &[u8], n: usize) -> usize
     requires { n ≤ 8 * length run.now }
     ensures { result ≡ ones_before run.now n }
@@ -115,10 +108,8 @@ pub fn ones_before(run: &[u8], n: usize) -> usize
     let eights = n / 512;
     let words = n / 64;
     let mut ones = ones_in_eights(run, eights) + ones_in_words(run, 8 * eights, words);
-    let mut i = 64 * words;
-    while i < n {
+    for i in 64 * words..n {
         ones += bits::bit_in(run, BitPlace(i)) as usize;
-        i += 1;
     }
     ones
 }

@@ -1,7 +1,7 @@
 -- The laws of numbers in octets, each once, over the count of octets.
 use mathlib.Core.Path.{◌≡◌, refl, ◌∙◌}
-use Prim.Native.Nat.{ℕ, zero, suc, ◌+◌, ◌-◌, ◌*◌, ◌%◌, ◌^◌, ◌≤◌, ◌<◌}
-use native.Mathlib.Nat.{le_of_lt, one-mul, pow-suc, pow-le-pow_right, mod-eq_of_lt, add-mod_left}
+use Prim.Native.Nat.{ℕ, zero, suc, ◌+◌, ◌*◌, ◌%◌, ◌^◌, ◌≤◌, ◌<◌}
+use native.Mathlib.Nat.{le_of_lt, pow-suc, pow-le-pow_right, mod-eq_of_lt, add-mod_left}
 use native.Mathlib.Numerals.{add-one}
 use native.Mathlib.Omega.{arith}
 use mathlib.Core.Bool.{false, not}
@@ -9,7 +9,6 @@ use mathlib.Core.List.{List}
 use borrow.Author.Tests.{le-ltb, lt-ltb}
 use lib.Arith.{digits_lt}
 use lib.Dec.{eqb, ltb, eqb-suc-zero, lit<}
-use lib.Pow.{shl_exact}
 use Rattle.octets.specs.Numbers.{octet_at, number_at, top_bit, signed_of}
 
 pub number_none : (xs : List ℕ) (p : ℕ) → number_at xs p 0 ≡ 0
@@ -47,7 +46,3 @@ sign_set n v h =
     past : (t v : ℕ) → ltb t (t + v) ≡ not (eqb v 0)
     past t zero = le-ltb t (t + 0) (omega arith)
     past t (suc v) = rw (eqb-suc-zero v) (lt-ltb t (t + suc v) (omega arith))
-
--- What the top bit counts, as a shift makes it.
-pub top_shifted : (n : ℕ) → 1 ≤ n → n ≤ 8 → 1 * 2 ^ (8 * n - 1) % 2 ^ 64 ≡ top_bit n
-top_shifted n h k = shl_exact {a = 1} 1 (8 * n - 1) 64 (lit< tt) (omega arith) ∙ one-mul (top_bit n)

@@ -53,12 +53,9 @@ pub fn number_at(file: &[u8], at: FilePlace, count: usize) -> u64
     requires { (at.0 + count ≤ length file.now) × (count ≤ 8) }
     ensures { (result ≡ number_at file.now at.0 count) × (result < 256 ^ count) }
 {
-    let from = at.0;
     let mut number: u64 = 0;
-    let mut taken: usize = 0;
-    while taken < count {
-        number = number * 256 + file[from + taken] as u64;
-        taken += 1;
+    for &octet in &file[at.0..at.0 + count] {
+        number = number * 256 + octet as u64;
     }
     number
 }
