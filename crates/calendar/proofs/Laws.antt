@@ -3,27 +3,25 @@ use mathlib.Core.Path.{◌≡◌, ap, subst, ◌∙◌}
 use mathlib.Core.List.{List}
 use Prim.Native.Nat.{ℕ, ◌+◌, ◌-◌, ◌*◌, ◌/◌, ◌<◌}
 use native.Mathlib.Omega.{arith}
-use borrow.Author.Tests.{leb-true, ltb-true, ltb-false, lt-ltb, le-ltb}
+use borrow.Author.Tests.{leb-true, ltb-true, ltb-false}
 use lib.Dec.{leb, ltb}
 use Rattle.octets.proofs.Cases.{apart, split}
 use Rattle.calendar.specs.declared.Time.{Time}
 use Rattle.calendar.specs.declared.Unit.{Unit}
-use Rattle.calendar.specs.declared.Reading.TheVariants as Reading
-use Rattle.calendar.specs.declared.Later.TheVariants as Later
-use Rattle.calendar.specs.declared.Order.TheVariants as Order
-use Rattle.calendar.specs.Calendar.{octets_time, time_at, is_time, Gregorian, plus, second_of_day, seconds_in, seconds_after, fourteen_digits, ordered}
+use Rattle.calendar.specs.Calendar.{octets_time, time_at, is_time, Gregorian, plus, second_of_day, seconds_in, seconds_after, fourteen_digits}
 use Rattle.calendar.proofs.Tests.{time_is_gregorian}
 use Rattle.calendar.proofs.Days.{years_pass, in_range_is_real}
 use Rattle.calendar.proofs.Times.{gregorian_is_real, real_is_gregorian, second_number, seconds_count, earlier_time, later_time, same_second, same_time}
+use Rattle.std.specs.Prelude.{Some}
 
 -- A time that is read is Gregorian.
-pub read_is_gregorian : (xs : List ℕ) (p : ℕ) (t : Time) → time_at xs p ≡ Reading.At t → Gregorian t
+pub read_is_gregorian : (xs : List ℕ) (p : ℕ) (t : Time) → time_at xs p ≡ Some t → Gregorian t
 read_is_gregorian xs p t read =
     split (is_time (octets_time xs p)) (λ e. let same : octets_time xs p ≡ t = cc in subst Gregorian same (time_is_gregorian _ e))
     (λ e. apart cc)
 
 -- A Gregorian time moved on is Gregorian, where the calendar still has it.
-pub plus_is_gregorian : (t s : Time) (n : ℕ) (unit : Unit) → Gregorian t → plus t n unit ≡ Later.At s → Gregorian s
+pub plus_is_gregorian : (t s : Time) (n : ℕ) (unit : Unit) → Gregorian t → plus t n unit ≡ Some s → Gregorian s
 plus_is_gregorian t s n unit h e =
     let moved = seconds_after (n * seconds_in unit) t in
     let real = (seconds_count (n * seconds_in unit) t (gregorian_is_real h)).0 in
@@ -41,16 +39,6 @@ plus_plus t n m h =
     let second = seconds_count m (seconds_after n t) first.0 in
     let at_once = seconds_count (n + m) t (gregorian_is_real h) in
     same_second _ _ second.0 at_once.0 (omega arith)
-
--- The order of two times, by their digits.
-pub is_before : (a b : Time) → fourteen_digits a < fourteen_digits b → ordered a b ≡ Order.Before
-is_before a b less = rw (lt-ltb _ _ less)
-
-pub is_after : (a b : Time) → fourteen_digits b < fourteen_digits a → ordered a b ≡ Order.After
-is_after a b less = simp (le-ltb (fourteen_digits a) (fourteen_digits b) (omega arith), lt-ltb _ _ less)
-
-pub is_same : (a b : Time) → fourteen_digits a ≡ fourteen_digits b → ordered a b ≡ Order.Same
-is_same a b same = simp (le-ltb (fourteen_digits a) (fourteen_digits b) (omega arith), le-ltb (fourteen_digits b) (fourteen_digits a) (omega arith))
 
 -- The time with the greater digits comes after the other.
 pub order_is_counting : (a b : Time) → Gregorian a → Gregorian b → fourteen_digits a < fourteen_digits b → (n : ℕ) × (0 < n) × (b ≡ seconds_after n a)

@@ -4,6 +4,7 @@ mod Years
 mod Months
 mod Days
 mod Times
+mod Order
 pub mod Tests
 pub mod Laws
 mod Examples

@@ -1,14 +1,14 @@
 -- The days of a year's months.
 use mathlib.Core.Path.{◌≡◌}
 use mathlib.Core.Bool.{◌||◌}
-use Prim.Native.Nat.{ℕ, zero, suc, ◌+◌, ◌-◌, ◌*◌, ◌≤◌, ◌<◌}
+use Prim.Native.Nat.{ℕ, zero, suc, ◌+◌, ◌-◌, ◌*◌, ◌≤◌}
 use native.Mathlib.Numerals.{add-one}
 use native.Mathlib.Omega.{arith}
 use lib.Dec.{eqb}
 use Rattle.octets.proofs.Cases.{split}
 use Rattle.calendar.specs.Calendar.{is_leap, month_length}
 use Rattle.calendar.specs.Count.{year_length, days_in_months}
-use Rattle.calendar.proofs.General.{comes_back, grows}
+use Rattle.calendar.proofs.General.{grows}
 
 -- A month has 28 to 31 days.
 pub month_bounds : (year month : ℕ) → (28 ≤ month_length year month) × (month_length year month ≤ 31)
@@ -43,6 +43,5 @@ months_at_most year (suc n) = omega (arith, months_at_most year n, month_bounds 
 pub month_passed : (year month : ℕ) → 1 ≤ month → days_in_months year month ≡ days_in_months year (month - 1) + month_length year month
 month_passed year month h = let same : month - 1 + 1 ≡ month = omega arith in rw same at (month_more year (month - 1))
 
--- Where a month's days are over and the year's are not, the month is not the last.
-pub month_left : (year month rest : ℕ) → 1 ≤ month → month_length year month ≤ rest → days_in_months year (month - 1) + rest < year_length year → month < 12
-month_left year month rest h over = comes_back (suc month) 12 _ _ (λ last. omega (arith, month_passed year month h, months_grow year 12 month (omega arith), twelve_months year))
+-- The laws by which the months passed are counted.
+pub ruleset counted = (month_passed, months_at_most, month_bounds)

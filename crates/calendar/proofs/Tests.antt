@@ -1,16 +1,15 @@
 -- The test of a date holds exactly for the dates in range, that of a time exactly for the Gregorian times, and so are octets read.
-use mathlib.Core.Path.{◌≡◌, ◌∙◌}
+use mathlib.Core.Path.{◌≡◌}
 use mathlib.Core.Bool.{Bool, true, false, ◌&&◌}
 use mathlib.Core.List.{List}
 use Prim.Native.Nat.{ℕ, ◌≤◌}
-use native.Mathlib.Omega.{arith}
 use borrow.Author.Tests.{leb-true, le-leb}
 use lib.Dec.{leb}
 use Rattle.octets.proofs.Cases.{split, both}
 use Rattle.calendar.specs.declared.Date.{Date}
 use Rattle.calendar.specs.declared.Time.{Time}
-use Rattle.calendar.specs.declared.Reading.TheVariants as Reading
-use Rattle.calendar.specs.Calendar.{month_length, octets_time, time_at, is_date, is_time, DateInRange, Gregorian}
+use Rattle.calendar.specs.Calendar.{octets_time, time_at, is_date, is_time, DateInRange, Gregorian}
+use Rattle.std.specs.Prelude.{Some, None}
 
 -- The last of several bounds that are tested together holds, and so do those before it.
 bound : (others : Bool) (m n : ℕ) → (others && leb m n) ≡ true → (others ≡ true) × (m ≤ n)
@@ -33,28 +32,20 @@ time_is_gregorian t e =
     let hour23 = bound _ _ _ minute59.0 in
     record { on_date = date_in_range t.date hour23.0; hour23 = hour23.1; minute59 = minute59.1; second59 = second59.1 }
 
--- Where the bounds that every month shares hold, the month's length decides.
-pub length_decides : (d : Date) → (1900 ≤ d.year) × (d.year ≤ 2399) × (1 ≤ d.month) × (d.month ≤ 12) × (1 ≤ d.day) → is_date d ≡ leb d.day (month_length d.year d.month)
-length_decides d h = simp (le-leb _ _ h.0, le-leb _ _ h.1, le-leb _ _ h.2, le-leb _ _ h.3, le-leb _ _ h.4)
-
 -- A date or a time in range passes its test.
 pub in_range_is_date : (d : Date) → DateInRange d → is_date d ≡ true
-in_range_is_date d h = length_decides d (omega arith) ∙ le-leb _ _ h.day_last
+in_range_is_date d h = simp (le-leb _ _ h.from1900, le-leb _ _ h.to2399, le-leb _ _ h.month1, le-leb _ _ h.month12, le-leb _ _ h.day1, le-leb _ _ h.day_last)
 
 pub gregorian_is_time : (t : Time) → Gregorian t → is_time t ≡ true
 gregorian_is_time t h = simp (in_range_is_date t.date h.on_date, le-leb _ _ h.hour23, le-leb _ _ h.minute59, le-leb _ _ h.second59)
 
--- A date out of range fails the test.
-pub out_of_range_is_no_date : (d : Date) → (DateInRange d → ⊥) → is_date d ≡ false
-out_of_range_is_no_date d out = split (is_date d) (λ e. absurd (out (date_in_range d e))) (λ e. e)
-
 -- The octets of a Gregorian time are read as that time, and others as none.
 module _ (xs : List ℕ) (p : ℕ) where
-  pub read_time : Gregorian (octets_time xs p) → time_at xs p ≡ Reading.At (octets_time xs p)
+  pub read_time : Gregorian (octets_time xs p) → time_at xs p ≡ Some (octets_time xs p)
   read_time h = rw (gregorian_is_time (octets_time xs p) h)
 
-  pub read_no_date : is_date (octets_time xs p).date ≡ false → time_at xs p ≡ Reading.NoTime
+  pub read_no_date : is_date (octets_time xs p).date ≡ false → time_at xs p ≡ None
   read_no_date e = simp e
 
-  pub read_no_time : (Gregorian (octets_time xs p) → ⊥) → time_at xs p ≡ Reading.NoTime
+  pub read_no_time : (Gregorian (octets_time xs p) → ⊥) → time_at xs p ≡ None
   read_no_time out = split (is_time (octets_time xs p)) (λ e. absurd (out (time_is_gregorian (octets_time xs p) e))) (λ e. rw e)

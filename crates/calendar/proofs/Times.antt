@@ -8,11 +8,11 @@ use lib.Dec.{ltb, leb}
 use Rattle.octets.proofs.Cases.{split}
 use Rattle.calendar.specs.declared.Date.{Date}
 use Rattle.calendar.specs.declared.Time.{Time}
-use Rattle.calendar.specs.declared.Later.TheVariants as Later
 use Rattle.calendar.specs.Calendar.{until2399, second_of_day, seconds_after, fourteen_digits, Gregorian}
 use Rattle.calendar.specs.Count.{day_number, RealDate}
 use Rattle.calendar.proofs.General.{comes_back, same_digits}
 use Rattle.calendar.proofs.Days.{to_2399, past_2399, same_number, eight_digits, later_counts, earlier, same_date, in_range_is_real}
+use Rattle.std.specs.Prelude.{Some, None}
 
 -- A time of a real date of any year.
 pub record RealTime (t : Time) : Type 0 where
@@ -87,11 +87,11 @@ module _ (t : Time) (n : ℕ) (h : Gregorian t) where
   moved : RealDate (seconds_after n t).date × (day_number (seconds_after n t).date ≡ day_number t.date + (second_of_day t + n) / 86400)
   moved = later_counts ((second_of_day t + n) / 86400) t.date (in_range_is_real h.on_date)
 
-  pub passes_2399 : 876582 ≤ day_number t.date + (second_of_day t + n) / 86400 → until2399 (seconds_after n t) ≡ Later.Passes2399
+  pub passes_2399 : 876582 ≤ day_number t.date + (second_of_day t + n) / 86400 → until2399 (seconds_after n t) ≡ None
   passes_2399 past =
       split (leb (seconds_after n t).date.year 2399) (λ test. absurd (omega (arith, moved.1, to_2399 _ moved.0 (leb-true _ _ test)))) (λ test. rw test)
 
-  pub stays_within : (d : Date) → RealDate d → day_number d ≡ day_number t.date + (second_of_day t + n) / 86400 → day_number d < 876582 → until2399 (seconds_after n t) ≡ Later.At (moved_to d (second_of_day t + n))
+  pub stays_within : (d : Date) → RealDate d → day_number d ≡ day_number t.date + (second_of_day t + n) / 86400 → day_number d < 876582 → until2399 (seconds_after n t) ≡ Some (moved_to d (second_of_day t + n))
   stays_within d real same within =
       let dated : (seconds_after n t).date ≡ d = same_number _ _ moved.0 real (moved.1 ∙ sym same) in
       split (leb (seconds_after n t).date.year 2399) (λ test. rw (test, dated)) (λ test. absurd (omega (arith, ap day_number dated, past_2399 (seconds_after n t).date (leb-false _ _ test))))

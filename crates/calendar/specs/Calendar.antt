@@ -1,13 +1,12 @@
 -- RULES, "Section 1": the Gregorian calendar as days that follow one another, and the times that are taken: years 1900 to 2399, seconds 0 to 59.
-use Rattle.std.specs.Prelude.{ℕ, zero, suc, ◌+◌, ◌*◌, ◌/◌, ◌%◌, ◌≤◌, Bool, not, ◌&&◌, ◌||◌, cond, List, [], ◌∷◌, ◌++◌, eqb, ltb, leb}
+use Rattle.std.specs.Prelude.{ℕ, zero, suc, ◌+◌, ◌*◌, ◌/◌, ◌%◌, ◌≤◌, Bool, not, ◌&&◌, ◌||◌, cond, List, [], ◌∷◌, ◌++◌, eqb, ltb, leb, ◌≡◌, Option, Some, None, Result, Ok, Err}
 use Rattle.octets.specs.Numbers.{octet_at, number_at}
 use Rattle.calendar.specs.declared.Date.{Date}
 use Rattle.calendar.specs.declared.Time.{Time}
 use Rattle.calendar.specs.declared.Unit as declaredUnit
 use Rattle.calendar.specs.declared.Unit.TheVariants as Unit
-use Rattle.calendar.specs.declared.Reading.{Reading}
-use Rattle.calendar.specs.declared.Later.{Later}
-use Rattle.calendar.specs.declared.Order.{Order}
+use Rattle.std.specs.declared.cmp.Ordering.{Ordering}
+use Rattle.calendar.specs.declared.UnknownUnit.{UnknownUnit}
 
 -- Every fourth year is a leap year, of the hundredth years only every fourth.
 unfoldable pub is_leap : ℕ → Bool
@@ -45,6 +44,18 @@ at_second d s = record { date = days_after (s / 86400) d; hour = s / 3600 % 24; 
 abbrev pub seconds_after : ℕ → Time → Time
 seconds_after n t = at_second t.date (second_of_day t + n)
 
+-- The unit that a number stands for: 0 minute, 1 hour, 2 day, and no other.
+abbrev pub unit_of : ℕ → Result declaredUnit.Unit UnknownUnit
+unit_of number =
+    cond (eqb number 0) (Ok Unit.Minute)
+    (cond (eqb number 1) (Ok Unit.Hour)
+    (cond (eqb number 2) (Ok Unit.Day)
+    (Err (record { 0 = number }))))
+
+-- The conversion of a number gives that unit.
+abbrev pub GivesUnit : ℕ → Result declaredUnit.Unit UnknownUnit → Type 0
+GivesUnit number unit = unit ≡ unit_of number
+
 -- How many seconds a unit has.
 abbrev pub seconds_in : declaredUnit.Unit → ℕ
 seconds_in Unit.Minute = 60
@@ -52,11 +63,11 @@ seconds_in Unit.Hour = 3600
 seconds_in Unit.Day = 86400
 
 -- RULES, "Section 4": a sum that leads past the last year that is taken is no time.
-abbrev pub until2399 : Time → Later
-until2399 t = cond (leb t.date.year 2399) (Later.At t) Later.Passes2399
+abbrev pub until2399 : Time → Option Time
+until2399 t = cond (leb t.date.year 2399) (Some t) None
 
 -- The time so many minutes, hours or days after another.
-abbrev pub plus : Time → ℕ → declaredUnit.Unit → Later
+abbrev pub plus : Time → ℕ → declaredUnit.Unit → Option Time
 plus t count unit = until2399 (seconds_after (count * seconds_in unit) t)
 
 -- RULES, "Section 1": which times are taken, as a test and as what it tells. There is no leap second.
@@ -90,8 +101,8 @@ octets_time xs p =
       second = octet_at xs (p + 6);
     }
 
-abbrev pub time_at : List ℕ → ℕ → Reading
-time_at xs p = cond (is_time (octets_time xs p)) (Reading.At (octets_time xs p)) Reading.NoTime
+abbrev pub time_at : List ℕ → ℕ → Option Time
+time_at xs p = cond (is_time (octets_time xs p)) (Some (octets_time xs p)) None
 
 -- The 14 digits of a time, as one number.
 abbrev pub fourteen_digits : Time → ℕ
@@ -115,5 +126,5 @@ digits_of t =
     ++ two_digits t.second
 
 -- Which of two times comes first, by their digits.
-abbrev pub ordered : Time → Time → Order
-ordered a b = cond (ltb (fourteen_digits a) (fourteen_digits b)) Order.Before (cond (ltb (fourteen_digits b) (fourteen_digits a)) Order.After Order.Same)
+abbrev pub ordered : Time → Time → Ordering
+ordered a b = cond (ltb (fourteen_digits a) (fourteen_digits b)) Ordering.Less (cond (ltb (fourteen_digits b) (fourteen_digits a)) Ordering.Greater Ordering.Equal)

@@ -2,31 +2,26 @@
 #![tactic(auto)]
 
 ghost use Rattle.std.specs.Prelude.{◌≡◌, ◌+◌, ◌-◌, ◌≤◌, ◌<◌, length};
-ghost use Rattle.calendar.specs.Calendar.{is_leap, month_length, is_date, DateInRange, Gregorian, time_at, seconds_in, plus, fourteen_digits, digits_of, ordered};
+ghost use Rattle.calendar.specs.Calendar.{is_leap, month_length, is_date, DateInRange, Gregorian, time_at, GivesUnit, seconds_in, plus, digits_of, ordered};
 ghost use Rattle.calendar.specs.Count.{days_before_year, days_in_months, day_number, RealDate, InYear};
 
 use octets::FilePlace;
+use std::cmp::Ordering;
 
-#[derive(Clone, Copy)]
+// Dates and times come one after the other in the order of their parts, the year first.
+#[derive(Clone, Copy, PartialEq, Eq, PartialOrd, Ord)]
 pub struct Date {
     pub year: u32,
     pub month: u32,
     pub day: u32,
 }
 
-#[derive(Clone, Copy)]
+#[derive(Clone, Copy, PartialEq, Eq, PartialOrd, Ord)]
 pub struct Time {
     pub date: Date,
     pub hour: u32,
     pub minute: u32,
     pub second: u32,
-}
-
-// What seven octets hold.
-#[derive(Clone, Copy)]
-pub enum Reading {
-    At(Time),
-    NoTime,
 }
 
 #[derive(Clone, Copy)]
@@ -36,20 +31,7 @@ pub enum Unit {
     Day,
 }
 
-// The time so much later, where it still lies in the years that the calendar has.
-#[derive(Clone, Copy)]
-pub enum Later {
-    At(Time),
-    Passes2399,
-}
-
-#[derive(Clone, Copy)]
-pub enum Order {
-    Before,
-    Same,
-    After,
-}
-
+#[tactic(auto, unfolding(crate::specs::Calendar::is_leap))]
 fn is_leap(year: u32) -> bool
     ensures { result ≡ is_leap year }
 {
@@ -62,6 +44,7 @@ fn is_leap(year: u32) -> bool
     year % 400 == 0
 }
 
+#[tactic(auto, unfolding(crate::specs::Calendar::month_length))]
 fn month_length(year: u32, month: u32) -> u32
     ensures { result ≡ month_length year month }
 {
@@ -75,26 +58,14 @@ fn month_length(year: u32, month: u32) -> u32
 fn is_date(date: Date) -> bool
     ensures { result ≡ is_date date }
 {
-    if date.year < 1900 {
-        return false;
-    }
-    if 2399 < date.year {
-        return false;
-    }
-    if date.month < 1 {
-        return false;
-    }
-    if 12 < date.month {
-        return false;
-    }
-    if date.day < 1 {
-        return false;
-    }
-    date.day <= month_length(date.year, date.month)
+    (1900..=2399).contains(&date.year)
+        && (1..=12).contains(&date.month)
+        && 1 <= date.day
+        && date.day <= month_length(date.year, date.month)
 }
 
-// The time in the seven octets from `at` on: the year in two of them, then month, day, hour, minute and second.
-pub fn time_at(file: &[u8], at: FilePlace) -> Reading
+// The time in the seven octets from `at` on, where they hold one: the year in two of them, then month, day, hour, minute and second.
+pub fn time_at(file: &[u8], at: FilePlace) -> Option<Time>
     requires { at.0 + 7 ≤ length file.now }
     ensures { result ≡ time_at file.now at.0 }
 {
@@ -107,18 +78,18 @@ pub fn time_at(file: &[u8], at: FilePlace) -> Reading
     let second = file[from + 6] as u32;
     let date = Date { year, month, day };
     if !is_date(date) {
-        return Reading::NoTime;
+        return None;
     }
     if 23 < hour {
-        return Reading::NoTime;
+        return None;
     }
     if 59 < minute {
-        return Reading::NoTime;
+        return None;
     }
     if 59 < second {
-        return Reading::NoTime;
+        return None;
     }
-    Reading::At(Time {
+    Some(Time {
         date,
         hour,
         minute,
@@ -127,6 +98,7 @@ pub fn time_at(file: &[u8], at: FilePlace) -> Reading
 }
 
 // How many days lie before a year, counted from the year 0 on, as if the calendar had held since then.
+#[tactic(auto, using(crate::proofs::Years::days_before_year_lem))]
 fn days_before_year(year: u32) -> u32
     requires { year ≤ 2400 }
     ensures { result ≡ days_before_year year }
@@ -135,14 +107,13 @@ fn days_before_year(year: u32) -> u32
 }
 
 // How many days of a year lie before a month.
+#[tactic(auto, using(crate::proofs::Months::counted), unfolding(crate::specs::Count::days_in_months))]
 fn days_before_month(year: u32, month: u32) -> u32
     requires { month ≤ 12 }
     ensures { result ≡ days_in_months year (month - 1) }
 {
     let mut days: u32 = 0;
-    let mut passed: u32 = 0;
-    while passed + 1 < month {
-        passed += 1;
+    for passed in 1..month {
         days += month_length(year, passed);
     }
     days
@@ -159,6 +130,7 @@ fn day_number(date: Date) -> u64
 }
 
 // The year of the day that has so many days before it. 876,582 days lie before the year 2400.
+#[tactic(auto, using(crate::proofs::Years::years_at_most, crate::proofs::Years::days_before_year_lem))]
 fn year_of(number: u32) -> u32
     requires { number < 876582 }
     ensures { InYear number result }
@@ -172,21 +144,44 @@ fn year_of(number: u32) -> u32
 }
 
 // The date that has so many days before it.
+#[tactic(auto, using(crate::proofs::Months::counted), unfolding(crate::specs::Count::days_in_months))]
 fn date_of(number: u32) -> Date
     requires { number < 876582 }
     ensures { (RealDate result) × (day_number result ≡ number) }
 {
     let year = year_of(number);
     let mut rest = number - days_before_year(year);
-    let mut month: u32 = 1;
-    loop {
+    for month in 1..12 {
         let length = month_length(year, month);
         if rest < length {
             let day = rest + 1;
             return Date { year, month, day };
         }
         rest -= length;
-        month += 1;
+    }
+    Date {
+        year,
+        month: 12,
+        day: rest + 1,
+    }
+}
+
+// A number that stands for no unit.
+#[derive(Clone, Copy)]
+pub struct UnknownUnit(pub u8);
+
+impl TryFrom<u8> for Unit {
+    type Error = UnknownUnit;
+
+    ghost try_from_gives = { GivesUnit };
+
+    fn try_from(number: u8) -> Result<Self, UnknownUnit> {
+        match number {
+            0 => Ok(Unit::Minute),
+            1 => Ok(Unit::Hour),
+            2 => Ok(Unit::Day),
+            _ => Err(UnknownUnit(number)),
+        }
     }
 }
 
@@ -200,8 +195,8 @@ fn seconds_in(unit: Unit) -> u64
     }
 }
 
-// The time `count` minutes, hours or days after `time`.
-pub fn plus(time: Time, count: u32, unit: Unit) -> Later
+// The time `count` minutes, hours or days after `time`, where it still lies in the years that the calendar has.
+pub fn plus(time: Time, count: u32, unit: Unit) -> Option<Time>
     requires { Gregorian time }
     ensures { result ≡ plus time count unit }
 {
@@ -210,13 +205,13 @@ pub fn plus(time: Time, count: u32, unit: Unit) -> Later
     let seconds = passed as u64 + count as u64 * seconds_in(unit);
     let number = day_number(start) + seconds / 86400;
     if 876582 <= number {
-        return Later::Passes2399;
+        return None;
     }
     let hour = (seconds / 3600 % 24) as u32;
     let minute = (seconds / 60 % 60) as u32;
     let second = (seconds % 60) as u32;
     let date = date_of(number as u32);
-    Later::At(Time {
+    Some(Time {
         date,
         hour,
         minute,
@@ -224,29 +219,12 @@ pub fn plus(time: Time, count: u32, unit: Unit) -> Later
     })
 }
 
-// The 14 digits of a time, as a number.
-fn fourteen_digits(time: Time) -> u64
-    requires { Gregorian time }
-    ensures { result ≡ fourteen_digits time }
-{
-    let date = time.date;
-    let day = (date.year as u64 * 100 + date.month as u64) * 100 + date.day as u64;
-    ((day * 100 + time.hour as u64) * 100 + time.minute as u64) * 100 + time.second as u64
-}
-
-pub fn compare(a: Time, b: Time) -> Order
+// Which of two times comes first: the order of their parts is that of their 14 digits.
+pub fn compare(a: Time, b: Time) -> Ordering
     requires { (Gregorian a) × (Gregorian b) }
     ensures { result ≡ ordered a b }
 {
-    let x = fourteen_digits(a);
-    let y = fourteen_digits(b);
-    if x < y {
-        return Order::Before;
-    }
-    if y < x {
-        return Order::After;
-    }
-    Order::Same
+    a.cmp(&b)
 }
 
 // The 14 digits of a time: four of the year, two each of month, day, hour, minute and second.

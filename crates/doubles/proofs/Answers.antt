@@ -1,19 +1,12 @@
--- When R is finite, by its exponent's field; that a finite single is a double too; when X is in its range, by its sign and size; and the
--- answer that follows.
-use mathlib.Core.Path.{◌≡◌, refl, sym, ap, ◌∙◌, subst}
-use Prim.Native.Nat.{ℕ, zero, suc, ◌+◌, ◌/◌, ◌%◌, ◌^◌, ◌≤◌, ◌<◌}
-use native.Mathlib.Nat.{not-suc-le-zero}
+-- When R is finite, by its exponent's field; and that a finite single is a double too.
+use mathlib.Core.Path.{◌≡◌, refl, sym, ◌∙◌, subst}
+use Prim.Native.Nat.{ℕ, zero, suc, ◌+◌, ◌/◌, ◌%◌, ◌^◌}
 use mathlib.Core.Bool.{Bool, true, false, not, ◌&&◌, cond}
-use borrow.Author.Tests.{le-leb, lt-leb}
 use lib.Dec.{T, leb, eqb}
 use lib.Ieee.{Float, nan, inf, fin, binary32, binary64, odd, of_fields, of_bits, nan_bits, is_nan, fits}
 use lib.Ieee.Fits.{and_i, fits_widens}
 use lib.Ieee.Bits.{nan_bits_is, of_bits-fits}
 use lib.Ieee.Scale.{finite}
-use Rattle.octets.specs.declared.Signed.{Signed}
-use Rattle.octets.specs.Numbers.{whole_of}
-use Rattle.doubles.specs.declared.Rebuilt.TheVariants.{Double, Refused}
-use Rattle.doubles.specs.Doubles.{packing_of, rebuilt, value_of, is_in_range, is_rebuildable, not_rebuildable, rebuild_one}
 
 odd_finite : (d : ℕ) (s : Bool) (q k l : ℕ) → finite (odd d s q k l) ≡ true
 unfolding odd
@@ -48,27 +41,3 @@ pub finite_widens : (r : ℕ) → T (finite (of_bits binary32 r)) → T (fits bi
 finite_widens r t =
     and_i (fits binary64 (of_bits binary32 r)) (not (is_nan (of_bits binary32 r))) (fits_widens (of_bits binary32 r) (of_bits-fits binary32 r))
     (subst (λ (b : Bool). T (not b)) (sym (finite_number (of_bits binary32 r) t)) tt)
-
-pub too_large : (negative : Bool) (x : ℕ) → 2147483647 < x → is_in_range (whole_of negative x) ≡ false
-too_large false x h = lt-leb x 2147483647 h
-too_large true zero h = absurd (not-suc-le-zero h)
-too_large true (suc x) h = refl
-
-pub below_zero : (x : ℕ) → (x ≡ 0 → ⊥) → is_in_range (whole_of true x) ≡ false
-below_zero zero h = absurd (h refl)
-below_zero (suc x) h = refl
-
-pub in_range_lem : (x : ℕ) → x ≤ 2147483647 → is_in_range (whole_of false x) ≡ true
-in_range_lem x h = le-leb x 2147483647 h
-
--- The double by the packing record is the double by R, E and D.
-pub by_packing : (r : ℕ) (e d : Signed) (x : ℕ) → rebuilt (packing_of r e d) x ≡ value_of r e d x
-unfolding value_of
-by_packing r e d x = refl
-
--- The answer by the one test of the specification.
-pub refused : (r : ℕ) (e d x : Signed) → is_rebuildable r e d x ≡ false → Refused not_rebuildable ≡ rebuild_one r e d x
-refused r e d x false-test = ap (λ (b : Bool). cond b (Double (value_of r e d x.size)) (Refused not_rebuildable)) (sym false-test)
-
-pub answered : (r : ℕ) (e d x : Signed) → is_rebuildable r e d x ≡ true → Double (value_of r e d x.size) ≡ rebuild_one r e d x
-answered r e d x true-test = ap (λ (b : Bool). cond b (Double (value_of r e d x.size)) (Refused not_rebuildable)) (sym true-test)

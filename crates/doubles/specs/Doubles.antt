@@ -1,5 +1,5 @@
 -- RULES, "From X to a double": the double as IEEE 754's operations give it, and the question that rebuilds one.
-use Rattle.std.specs.Prelude.{ℕ, ◌^◌, ◌≤◌, Bool, true, false, ◌&&◌, cond, T, leb, ℤ, pos, negsuc, Float}
+use Rattle.std.specs.Prelude.{ℕ, ◌^◌, ◌≤◌, Bool, true, false, ◌&&◌, cond, T, leb, ℤ, pos, negsuc, Float, Result, Ok, Err}
 use Rattle.std.specs.Float.{fin, binary32, binary64}
 use Rattle.std.specs.Float.Ieee.{add, mul, div, of_int, of_bits}
 use Rattle.std.specs.Float.Ieee.Scale.{finite}
@@ -8,8 +8,6 @@ use Rattle.octets.specs.Numbers.{whole}
 use Rattle.refusals.specs.declared.Refusal.{Refusal}
 use Rattle.refusals.specs.declared.Why.TheVariants as Why
 use Rattle.doubles.specs.declared.Packing.{Packing}
-use Rattle.doubles.specs.declared.Rebuilt.{Rebuilt}
-use Rattle.doubles.specs.declared.Rebuilt.TheVariants.{Double, Refused}
 
 -- 2 ^ e, and 10 ^ n, which is 5 ^ n x 2 ^ n, each as the double that it is.
 abbrev pub power_of_two : ℤ → Float
@@ -63,5 +61,5 @@ is_rebuildable r e d x = finite (of_bits binary32 r) && leb e.size 127 && leb d.
 abbrev pub not_rebuildable : Refusal
 not_rebuildable = record { why = Why.NotRebuildable; place = record { 0 = 0 } }
 
-abbrev pub rebuild_one : ℕ → Signed → Signed → Signed → Rebuilt
-rebuild_one r e d x = cond (is_rebuildable r e d x) (Double (value_of r e d x.size)) (Refused not_rebuildable)
+abbrev pub rebuild_one : ℕ → Signed → Signed → Signed → Result Float Refusal
+rebuild_one r e d x = cond (is_rebuildable r e d x) (Ok (value_of r e d x.size)) (Err not_rebuildable)

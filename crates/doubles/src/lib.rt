@@ -6,7 +6,7 @@ ghost use Rattle.std.specs.Float.{binary32};
 ghost use Rattle.std.specs.Float.Ieee.{of_bits};
 ghost use Rattle.std.specs.Float.Ieee.Scale.{finite};
 ghost use Rattle.octets.specs.Numbers.{whole};
-ghost use Rattle.doubles.specs.Doubles.{Scaled, power_of_two, power_of_ten, packing_of, rebuilt, not_rebuildable, rebuild_one};
+ghost use Rattle.doubles.specs.Doubles.{Scaled, power_of_two, power_of_ten, packing_of, rebuilt, is_rebuildable, not_rebuildable, rebuild_one};
 
 use octets::{FilePlace, Signed};
 use refusals::{Refusal, Why};
@@ -18,12 +18,6 @@ pub struct Packing {
     pub binary: f64,
     pub decimal: f64,
     pub below: bool,
-}
-
-#[derive(Clone, Copy)]
-pub enum Rebuilt {
-    Double(f64),
-    Refused(Refusal),
 }
 
 // 10 ^ n, by n products with ten. None of them rounds: 10 ^ n is 5 ^ n x 2 ^ n, and a double keeps 2 ^ n in its exponent and 5 ^ n in its 53
@@ -40,6 +34,7 @@ fn power_of_ten(n: u64) -> f64
 }
 
 // 2 ^ e: the double whose exponent's field is 1023 + e and whose fraction's field is 0.
+#[tactic(auto, using(crate::proofs::Powers::two_up, crate::proofs::Powers::two_down, crate::proofs::Powers::ordinary_pattern))]
 fn power_of_two(e: Signed) -> f64
     requires { e.size ≤ 127 }
     ensures { result ≡ power_of_two (whole e) }
@@ -52,6 +47,7 @@ fn power_of_two(e: Signed) -> f64
 }
 
 // Is the single with these bits finite? Its exponent's field is not all ones then.
+#[tactic(auto, using(crate::proofs::Answers::finite_by_field))]
 pub fn is_finite(r: u32) -> bool
     ensures { result ≡ finite (of_bits binary32 r) }
 {
@@ -72,6 +68,7 @@ pub fn packing_of(r: u32, e: Signed, d: Signed) -> Packing
 }
 
 // R + X x 2 ^ E, rounded once, then divided by 10 ^ D, or multiplied by 10 ^ -D, and rounded once.
+#[tactic(auto, unfolding(crate::specs::Doubles::scaled_by, crate::specs::Doubles::sum_of))]
 pub fn rebuild(p: Packing, x: u32) -> f64
     ensures { result ≡ rebuilt p x }
 {
@@ -83,35 +80,32 @@ pub fn rebuild(p: Packing, x: u32) -> f64
     }
 }
 
-fn not_rebuildable() -> Rebuilt
-    ensures { result ≡ Rebuilt.Refused not_rebuildable }
+fn not_rebuildable() -> Refusal
+    ensures { result ≡ not_rebuildable }
 {
-    Rebuilt::Refused(Refusal {
+    Refusal {
         why: Why::NotRebuildable,
         place: FilePlace(0),
-    })
+    }
+}
+
+// Can a double be rebuilt of these? R is finite, and the others are in their ranges. X has no sign, unless it is 0.
+fn is_rebuildable(r: u32, e: Signed, d: Signed, x: Signed) -> bool
+    ensures { result ≡ is_rebuildable r e d x }
+{
+    is_finite(r)
+        && e.size <= 127
+        && d.size <= 22
+        && x.size <= 0x7fff_ffff
+        && (!x.negative || x.size == 0)
 }
 
 // One double from R, E, D and X, or the refusal where R is not finite or one of the others is out of its range.
-pub fn rebuild_one(r: u32, e: Signed, d: Signed, x: Signed) -> Rebuilt
+pub fn rebuild_one(r: u32, e: Signed, d: Signed, x: Signed) -> Result<f64, Refusal>
     ensures { result ≡ rebuild_one r e d x }
 {
-    if !is_finite(r) {
-        return not_rebuildable();
+    if !is_rebuildable(r, e, d, x) {
+        return Err(not_rebuildable());
     }
-    if e.size > 127 {
-        return not_rebuildable();
-    }
-    if d.size > 22 {
-        return not_rebuildable();
-    }
-    if x.size > 0x7fff_ffff {
-        return not_rebuildable();
-    }
-    if x.negative {
-        if x.size != 0 {
-            return not_rebuildable();
-        }
-    }
-    Rebuilt::Double(rebuild(packing_of(r, e, d), x.size as u32))
+    Ok(rebuild(packing_of(r, e, d), x.size as u32))
 }

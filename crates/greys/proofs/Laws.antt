@@ -102,10 +102,6 @@ module _ (s : Scale) (scaled : ScaledTo s) {x : ℕ} (h : x ≤ s.largest) where
       let same = share_exact 72057594037927936 s.largest x s.share scaled.0 (omega (arith, small)) (omega (arith, enough)) (omega (arith, most)) in
       omega (arith, same, grey_divided s.largest x scaled.0)
 
-  -- And the division has it at all sizes.
-  pub quotient_grey : 254 * x / s.largest + 1 ≡ grey_of s.largest x
-  quotient_grey = omega (arith, grey_divided s.largest x scaled.0)
-
 -- What is made for a largest X is a scale, and has its divisor.
 pub scale_scaled : (largest : ℕ) → largest ≤ 2147483647 → ScaledTo (scale_of largest)
 scale_scaled largest h =

@@ -30,6 +30,7 @@ pub fn scale_of(largest: u32) -> Scale
 // The grey of X. Where the largest X is below 2^28, which its share tells, a product finds the grey. That is faster than to divide, and exact: what the share is
 // rounded up by, X times, is less than 2^56 / M. The largest X itself is not tested: the compiler would find that narrow integers are all 1 in the other branch,
 // which they never take, and would call the C library there.
+#[tactic(auto, using(crate::proofs::Laws::product_fits, crate::proofs::Laws::product_grey, crate::proofs::Laws::grey_fits))]
 pub fn grey_of(scale: Scale, x: u32) -> u8
     requires { (ScaledTo scale) × (x ≤ scale.largest) }
     ensures { result ≡ grey_of scale.largest x }

@@ -25,6 +25,15 @@ module _ {A : Type 0} where
   row_same f g zero h = refl
   row_same f g (suc n) h = ap₂ (λ (r : List A) (x : A). r ++ (x ∷ [])) (row_same f g n (λ i l. h i (omega arith))) (h n (omega arith))
 
+  -- A row is its first elements, and behind them the others.
+  pub row_then : (f : ℕ → A) (n m : ℕ) → row f n ++ row (λ k. f (n + k)) m ≡ row f (n + m)
+  unfolding row
+  row_then f n zero = append-nil (row f n) ∙ ap (row f) (sym (add-zero n))
+  row_then f n (suc m) =
+      sym (append_assoc (row f n) (row (λ k. f (n + k)) m) (f (n + m) ∷ []))
+      ∙ ap (λ (r : List A). r ++ (f (n + m) ∷ [])) (row_then f n m)
+      ∙ ap (row f) (sym (add-suc n m))
+
   -- The element of a row.
   pub row_at : (f : ℕ → A) (n i : ℕ) (z : A) → i < n → get_or (row f n) i z ≡ f i
   unfolding row
@@ -77,15 +86,18 @@ module _ {A : Type 0} where
       ∙ sym (filled_more f at (i - at) run)
       ∙ ap (λ (n : ℕ). filled f at n run) longer
 
-  -- Four elements more, in a run that is filled from its start.
+  -- One element more, in a run that is filled from its start, and four.
+  pub filled_one : (f : ℕ → A) (i : ℕ) (run now : List A) {x : A} → now ≡ filled f 0 i run → x ≡ f i → set now i x ≡ filled f 0 (i + 1) run
+  filled_one f i run now so_far same =
+      rw (sub-zero (i + 1)) at (filled_next f 0 i run now (omega arith) (rw (sub-zero i) so_far) same)
+
   pub filled_four : (f : ℕ → A) (i : ℕ) (run now : List A) {a b c d : A} → now ≡ filled f 0 i run → a ≡ f i → b ≡ f (i + 1) → c ≡ f (i + 2) → d ≡ f (i + 3) →
       set (set (set (set now i a) (i + 1) b) (i + 2) c) (i + 3) d ≡ filled f 0 (i + 4) run
   filled_four f i run now so_far one two three last =
       next (i + 3) (omega arith) (next (i + 2) (omega arith) (next (i + 1) (omega arith) (next i refl so_far one) two) three) last
     where
       next : (k : ℕ) {later : ℕ} → k + 1 ≡ later → {before : List A} {x : A} → before ≡ filled f 0 k run → x ≡ f k → set before k x ≡ filled f 0 later run
-      next k one_more {before} done same =
-          rw (sub-zero (k + 1)) at (filled_next f 0 k run before (omega arith) (rw (sub-zero k) done) same) ∙ ap (λ (n : ℕ). filled f 0 n run) one_more
+      next k one_more {before} done same = filled_one f k run before done same ∙ ap (λ (n : ℕ). filled f 0 n run) one_more
 
   -- Stretches filled with the same elements are the same.
   pub filled_same : (f g : ℕ → A) (at n : ℕ) (run : List A) → ((i : ℕ) → at ≤ i → i < at + n → f i ≡ g i) → filled f at n run ≡ filled g at n run

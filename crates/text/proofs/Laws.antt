@@ -1,14 +1,14 @@
 -- The laws of text, each once: pieces that are put one behind the other, and the decimal digits of a number.
 use mathlib.Core.Path.{◌≡◌, refl, sym, ap, ap₂, ◌∙◌}
 use mathlib.Core.Bool.{cond}
-use mathlib.Core.List.{List, [], ◌∷◌, ◌++◌}
+use mathlib.Core.List.{List, [], ◌∷◌, ◌++◌, append-nil}
 use Prim.Native.Nat.{ℕ, zero, suc, ◌+◌, ◌-◌, ◌*◌, ◌/◌, ◌^◌, ◌≤◌, ◌<◌}
 use native.Mathlib.Nat.{pow-suc, pow-zero, div-lt_iff_lt-mul}
 use native.Mathlib.Omega.{arith}
 use lib.Dec.{eqb, ltb}
 use lib.ListN.{length, set, drop, length-append, length-set, drop_of_length-le}
 use lib.Seq.{drop-cons, drop-set-lt, get_or-set_same, append_snoc}
-use borrow.Author.Tests.{ltb-true, ltb-false, eq-eqb, ne_eqb, eqb-true, eqb-false}
+use borrow.Author.Tests.{ltb-true, ltb-false, eq-eqb, ne_eqb, eqb-true, eqb-false, lt-ltb, le-ltb}
 use Rattle.octets.proofs.Cases.{split}
 use Rattle.calendar.specs.Calendar.{digit}
 use Rattle.text.specs.Text.{spelt, decimal, read_behind, read_back}
@@ -38,24 +38,38 @@ drop_store run i d inside =
     drop-cons (set run i d) i 0 (rw length-set inside)
     ∙ ap₂ (λ (octet : ℕ) (rest : List ℕ). octet ∷ rest) (get_or-set_same run i d 0 inside) (drop-set-lt (suc i) run i d (omega arith))
 
--- One digit more: that of `rest` goes in front of what is spelt, and the digits of its tenth are left.
-pub spelt_more : (digits : List ℕ) (i rest : ℕ) → 0 < rest → i < length digits → leading i (rest / 10) ++ drop i (set digits i (digit rest)) ≡ leading (suc i) rest ++ drop (suc i) digits
-spelt_more digits i rest some inside =
-    ap (λ (from : List ℕ). leading i (rest / 10) ++ from) (drop_store digits i (digit rest) inside)
-    ∙ sym (append_snoc (leading i (rest / 10)) (digit rest) (drop (suc i) digits))
-    ∙ ap (λ (front : List ℕ). front ++ drop (suc i) digits) (sym (leading_some (suc i) rest some ∙ spelt_last i rest))
+-- The digits of what is left of a number are to stand before place `most`. Its last digit is stored there, and the digits of its tenth are left, if any.
+pub spelt_first :
+    (digits : List ℕ) (most i rest : ℕ)
+    → most ≡ suc i
+    → i < length digits
+    → rest < 10
+    → drop i (set digits i (digit rest)) ≡ spelt most rest ++ drop most digits
+unfolding spelt
+spelt_first digits most i rest more inside small = rw (more, lt-ltb rest 10 small) (drop_store digits i (digit rest) inside)
 
--- The last digit alone, at the last of twenty places.
-pub first_spelt : (digits : List ℕ) (n : ℕ) → length digits ≡ 20 → leading 19 (n / 10) ++ drop 19 (set digits 19 (digit n)) ≡ decimal n
-first_spelt digits n twenty =
-    let none : drop 20 digits ≡ [] = drop_of_length-le digits {i = 20} (omega arith) in
-    ap (λ (from : List ℕ). leading 19 (n / 10) ++ from) (drop_store digits 19 (digit n) (omega arith) ∙ ap (λ (rest : List ℕ). digit n ∷ rest) none)
-    ∙ sym (spelt_last 19 n)
+pub spelt_more :
+    (digits : List ℕ) (most i rest : ℕ)
+    → most ≡ suc i
+    → i < length digits
+    → 10 ≤ rest
+    → spelt i (rest / 10) ++ drop i (set digits i (digit rest)) ≡ spelt most rest ++ drop most digits
+unfolding spelt
+spelt_more digits most i rest more inside large =
+    rw
+    (more, le-ltb rest 10 large)
+    (ap (λ (from : List ℕ). spelt i (rest / 10) ++ from) (drop_store digits i (digit rest) inside)
+    ∙ sym (append_snoc (spelt i (rest / 10)) (digit rest) (drop (suc i) digits)))
 
--- Where something is left, a place is left.
-pub room_left : (i rest : ℕ) → 0 < rest → rest < 10 ^ i → 1 ≤ i
-room_left zero rest some small = absurd (omega (arith, rw pow-zero at small))
-room_left (suc i) rest some small = omega arith
+-- Nothing is left before the first place.
+pub spelt_all : (digits : List ℕ) (rest : ℕ) → spelt 0 rest ++ drop 0 digits ≡ digits
+unfolding spelt
+spelt_all digits rest = refl
+
+-- And nothing stands behind the last one at first.
+pub spelt_none : (digits : List ℕ) (n : ℕ) → length digits ≡ 20 → decimal n ++ drop 20 digits ≡ decimal n
+spelt_none digits n twenty =
+    ap (λ (rest : List ℕ). decimal n ++ rest) (drop_of_length-le digits {i = 20} (omega arith)) ∙ append-nil (decimal n)
 
 -- Below a power of ten, a tenth is below the power before it.
 pub tenth_lt : (most n : ℕ) → n < 10 ^ suc most → n / 10 < 10 ^ most
@@ -107,6 +121,10 @@ length_small n small = ap length (decimal_small n small)
 pub length_more : (n count : ℕ) → 10 ≤ n → n < 10 ^ 20 → length (decimal (n / 10)) ≡ count → length (decimal n) ≡ count + 1
 length_more n count large fits tenth =
     ap length (decimal_more n large fits) ∙ length-append (decimal (n / 10)) (digit n ∷ []) ∙ ap (λ (k : ℕ). k + 1) tenth
+
+pub length_more_2 : (n count : ℕ) → 100 ≤ n → n < 10 ^ 20 → length (decimal (n / 10 / 10)) ≡ count → length (decimal n) ≡ count + 2
+length_more_2 n count large fits hundredth =
+    length_more n (count + 1) (omega arith) fits (length_more (n / 10) count (omega arith) (omega arith) hundredth) ∙ omega arith
 
 read_last : (number : ℕ) (front : List ℕ) (d : ℕ) → read_behind number (front ++ (d ∷ [])) ≡ 10 * read_behind number front + (d - 48)
 unfolding read_behind

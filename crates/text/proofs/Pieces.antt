@@ -10,6 +10,45 @@ use Rattle.calendar.specs.Calendar.{digit}
 use Rattle.text.specs.Text.{decimal}
 use Rattle.text.proofs.Laws.{decimal_small, decimal_more}
 
+-- Three, four or five pieces that are put one behind another are put as one, of elements of any type.
+module _ {A : Type 0} where
+  pub puts_three :
+      (run : List A) (at : ℕ) (s t u : List A) {a b c : List A} {i j n : ℕ}
+      → at + length (s ++ t ++ u) ≤ length run
+      → Puts run at s a i
+      → Puts a i t b j
+      → Puts b j u c n
+      → Puts run at (s ++ t ++ u) c n
+  puts_three run at s t u fits first second third =
+      let two = length-append s t in
+      let three = length-append (s ++ t) u in
+      puts_then run at (s ++ t) u (omega arith) (puts_then run at s t (omega arith) first second) third
+
+  pub puts_four :
+      (run : List A) (at : ℕ) (s t u v : List A) {a b c d : List A} {i j k n : ℕ}
+      → at + length (s ++ t ++ u ++ v) ≤ length run
+      → Puts run at s a i
+      → Puts a i t b j
+      → Puts b j u c k
+      → Puts c k v d n
+      → Puts run at (s ++ t ++ u ++ v) d n
+  puts_four run at s t u v fits first second third fourth =
+      let four = length-append (s ++ t ++ u) v in
+      puts_then run at (s ++ t ++ u) v (omega arith) (puts_three run at s t u (omega arith) first second third) fourth
+
+  pub puts_five :
+      (run : List A) (at : ℕ) (s t u v w : List A) {a b c d e : List A} {i j k m n : ℕ}
+      → at + length (s ++ t ++ u ++ v ++ w) ≤ length run
+      → Puts run at s a i
+      → Puts a i t b j
+      → Puts b j u c k
+      → Puts c k v d m
+      → Puts d m w e n
+      → Puts run at (s ++ t ++ u ++ v ++ w) e n
+  puts_five run at s t u v w fits first second third fourth fifth =
+      let five = length-append (s ++ t ++ u ++ v) w in
+      puts_then run at (s ++ t ++ u ++ v) w (omega arith) (puts_four run at s t u v (omega arith) first second third fourth) fifth
+
 -- A text was put into run `a` from `at` on, which made it run `b`, and from `r`, the place behind the text, there is still so much room.
 pub record Told (a : List ℕ) (at : ℕ) (u : List ℕ) (left : ℕ) (b : List ℕ) (r : ℕ) : Type 0 where
   pub put : Puts a at u b r

@@ -1,38 +1,34 @@
-// Text put into a lent run of octets, piece by piece: each function answers the place behind its piece.
+// What is put into a lent run, piece by piece: elements of any type, and text. Each function answers the place behind its piece.
 #![tactic(auto)]
 
 ghost use Rattle.std.specs.Prelude.{◌≡◌, ◌+◌, ◌≤◌, length, drop};
 ghost use Rattle.laws_rows.specs.Rows.{Puts};
 ghost use Rattle.text.specs.Text.{decimal, last_digit};
 
-// Puts the octets into the run from `at` on.
-pub fn put(run: &mut [u8], at: usize, octets: &[u8]) -> usize
-    requires { at + length octets.now ≤ length run.old }
-    ensures { Puts run.old at octets.now run.new result }
+// Puts the elements into the run from `at` on. Where the compiler knows how many they are, as in all that C links, the copy is a few moves, and no call of the C
+// library.
+pub fn put<T: Copy>(run: &mut [T], at: usize, elements: &[T]) -> usize
+    requires { at + length elements.now ≤ length run.old }
+    ensures { Puts run.old at elements.now run.new result }
 {
-    let mut done: usize = 0;
-    while done < octets.len() {
-        run[at + done] = octets[done];
-        done += 1;
-    }
-    at + done
+    let end = at + elements.len();
+    run[at..end].copy_from_slice(elements);
+    end
 }
 
 // Puts the decimal digits of `n` at the end of `digits`, and answers where they start.
 fn spell(n: u64, digits: &mut [u8; 20]) -> usize
     ensures { (drop result digits.new ≡ decimal n) × (result ≤ 19) }
 {
-    // A slice made of a reference to an array has the array's length, which the proof asks for.
-    let places: &mut [u8] = digits;
-    places[19] = (48 + n % 10) as u8;
-    let mut rest = n / 10;
-    let mut i: usize = 19;
-    while rest > 0 {
-        i -= 1;
-        places[i] = (48 + rest % 10) as u8;
+    let mut rest = n;
+    for i in (0..20).rev() {
+        digits[i] = (48 + rest % 10) as u8;
         rest /= 10;
+        if rest == 0 {
+            return i;
+        }
     }
-    i
+    0
 }
 
 // Puts the decimal digits of `n` into the run from `at` on.
@@ -42,9 +38,7 @@ pub fn put_decimal(run: &mut [u8], at: usize, n: u64) -> usize
 {
     let mut digits = [0u8; 20];
     let start = spell(n, &mut digits);
-    let whole: &[u8; 20] = &digits;
-    let places: &[u8] = whole;
-    put(run, at, &places[start..])
+    put(run, at, &digits[start..])
 }
 
 // How many decimal digits a number of at most five has.
@@ -52,19 +46,13 @@ pub fn digits_in(n: u32) -> usize
     requires { n ≤ 99999 }
     ensures { result ≡ length (decimal n) }
 {
-    if n < 10 {
-        return 1;
+    match n {
+        0..=9 => 1,
+        10..=99 => 2,
+        100..=999 => 3,
+        1000..=9999 => 4,
+        _ => 5,
     }
-    if n < 100 {
-        return 2;
-    }
-    if n < 1000 {
-        return 3;
-    }
-    if n < 10000 {
-        return 4;
-    }
-    5
 }
 
 // Puts the last decimal digit of `n` into the run.

@@ -1,11 +1,8 @@
--- `calendar::days_before_month` meets its contract. The invariant: `days` are the days of the first `passed` months.
+-- `calendar::days_before_month` meets its contract. The invariant: `days` are the days of the months before `passed`.
 use mathlib.Core.Path.{◌≡◌}
 use Prim.Native.Nat.{◌-◌, ◌≤◌}
 use Rattle.calendar.specs.Count.{days_in_months}
 use Rattle.calendar.proofs.days_before_month.Given as goal
 
 abbrev pub invariant-loop-passed : goal.invariant-loop-passed
-invariant-loop-passed l = (l.passed ≤ l.month - 1) × (l.days ≡ days_in_months l.year l.passed)
-
-abbrev pub decreases-loop-passed : goal.decreases-loop-passed
-decreases-loop-passed l = l.month - l.passed
+invariant-loop-passed l = (l.passed - 1 ≤ l.month - 1) × (l.days ≡ days_in_months l.year (l.passed - 1))

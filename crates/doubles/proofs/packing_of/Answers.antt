@@ -1,5 +1,4 @@
 -- `doubles::packing_of` meets its contract: a finite R widens without a change, and the powers are what their functions ensure.
-use lib.Ieee.{binary32, of_bits}
 use Rattle.doubles.proofs.Answers.{finite_pattern, finite_widens}
 use Rattle.doubles.proofs.packing_of.Goals as goal
 
@@ -8,13 +7,3 @@ float_from_bits-result c = finite_pattern c.args.r c.requires.finite_r
 
 pub float_to_float-result : goal.float_to_float-result
 float_to_float-result c = finite_widens c.args.r c.requires.finite_r
-
-pub returns : goal.returns
-returns c =
-    let a = c.args in
-    λ i. record {
-      reference = of_bits binary32 a.r;
-      binary = c.power_of_two.ensures i;
-      decimal = c.power_of_ten.ensures i;
-      below = a.d.negative;
-    }

@@ -1,5 +1,5 @@
 -- `doubles::power_of_ten` meets its contract. The invariant: after `counter` products the power is 10 ^ counter.
-use mathlib.Core.Path.{◌≡◌, refl, ap, ◌∙◌}
+use mathlib.Core.Path.{ap, ◌∙◌}
 use native.Mathlib.Omega.{arith}
 use borrow.Author.Rules.{rules}
 use lib.Ieee.{Float, binary64, mul, of_bits}
@@ -7,17 +7,8 @@ use Rattle.doubles.specs.Doubles.{power_of_ten}
 use Rattle.doubles.proofs.Powers.{ten_more}
 use Rattle.doubles.proofs.power_of_ten.Goals as goal
 
-pub loop-init : goal.loop-init
-unfolding of_bits
-loop-init c = (refl, search rules)
-
 pub loop-preserved : goal.loop-preserved
 unfolding of_bits
 loop-preserved c =
     let counter = c.loop.counter in
     (ap (λ (power : Float). mul binary64 power (power_of_ten 1)) c.loop.invariant.0 ∙ ten_more counter (omega arith), search rules)
-
-pub returns : goal.returns
-returns c =
-    let all : c.loop.counter ≡ c.args.n = omega arith in
-    c.loop.invariant.0 ∙ ap power_of_ten all

@@ -1,10 +1,8 @@
 -- `doubles::power_of_two` meets its contract: either arm makes the pattern of the power.
-use mathlib.Core.Path.{sym, ap, ◌∙◌}
-use mathlib.Core.Bool.{Bool, true}
+use mathlib.Core.Bool.{true}
 use Prim.Native.Nat.{◌+◌, ◌-◌, ◌*◌, ◌^◌}
 use lib.IntN.{pos}
 use Rattle.octets.specs.Numbers.{whole_of}
-use Rattle.doubles.specs.Doubles.{power_of_two}
 use Rattle.doubles.proofs.Powers.{two_up, two_down, ordinary_pattern}
 use Rattle.doubles.proofs.power_of_two.Goals as goal
 
@@ -17,13 +15,3 @@ pub float_from_bits-result-else-e : goal.float_from_bits-result-else-e
 float_from_bits-result-else-e c =
     let size = c.args.e.size in
     ordinary_pattern ((1023 + size) * 2 ^ 52) (pos size) (two_up size c.requires)
-
-pub returns-then-e : goal.returns-then-e
-returns-then-e c =
-    let size = c.args.e.size in
-    two_down size c.requires ∙ ap (λ (b : Bool). power_of_two (whole_of b size)) (sym c.if-e.true)
-
-pub returns-else-e : goal.returns-else-e
-returns-else-e c =
-    let size = c.args.e.size in
-    two_up size c.requires ∙ ap (λ (b : Bool). power_of_two (whole_of b size)) (sym c.if-e.false)
