@@ -40,12 +40,52 @@ pub fn length_of(file: &[u8], section: FilePlace) -> usize
     held(file, section, OctetNumber(1), OctetNumber(4)) as usize
 }
 
-// The octets of the section, and of no other, as a part of the file.
-pub fn octets_in<'a>(file: &'a [u8], section: FilePlace) -> &'a [u8]
-    requires { Lies file.now section.0 }
-    ensures { result.now ≡ octets_in file.now section.0 }
-{
-    let from = section.0;
-    let end = from + length_of(file, section);
-    &file[from..end]
+// A section that lies in the file: the file, and the place where the section starts.
+#[derive(Clone, Copy)]
+pub struct FileSection<'a> {
+    pub file: &'a [u8],
+    pub at: FilePlace,
+    ghost lies: { Lies file.now at.0 },
+}
+
+impl<'a> FileSection<'a> {
+    // How long the section says that it is.
+    pub fn length(self) -> usize
+        ensures { (result ≡ length_at self.entry.file.now self.entry.at.0) × (5 ≤ result) × (result < 2 ^ 32) }
+    {
+        length_of(self.file, self.at)
+    }
+
+    // The octet numbered `n`.
+    pub fn octet(self, n: OctetNumber) -> u8
+        requires { (1 ≤ n.0) × (n.0 ≤ length_at self.file.now self.at.0) }
+        ensures { (result ≡ octet self.entry.file.now self.entry.at.0 n.0) × (result < 256) }
+    {
+        octet(self.file, self.at, n)
+    }
+
+    // The number that the octets from `first` to `last` hold.
+    pub fn held(self, first: OctetNumber, last: OctetNumber) -> u64
+        requires { (1 ≤ first.0) × (first.0 ≤ last.0) × (last.0 < first.0 + 8) × (last.0 ≤ length_at self.file.now self.at.0) }
+        ensures { (result ≡ held self.entry.file.now self.entry.at.0 first.0 last.0) × (result < 256 ^ (last.0 + 1 - first.0)) }
+    {
+        held(self.file, self.at, first, last)
+    }
+
+    // The same with a sign.
+    pub fn held_signed(self, first: OctetNumber, last: OctetNumber) -> Signed
+        requires { (1 ≤ first.0) × (first.0 ≤ last.0) × (last.0 < first.0 + 8) × (last.0 ≤ length_at self.file.now self.at.0) }
+        ensures { result ≡ held_signed self.entry.file.now self.entry.at.0 first.0 last.0 }
+    {
+        held_signed(self.file, self.at, first, last)
+    }
+
+    // The octets of the section, and of no other, as a part of the file.
+    pub fn octets(self) -> &'a [u8]
+        ensures { result.now ≡ octets_in self.entry.file.now self.entry.at.0 }
+    {
+        let from = self.at.0;
+        let end = from + self.length();
+        &self.file[from..end]
+    }
 }

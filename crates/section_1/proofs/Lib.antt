@@ -1,2 +1,2 @@
--- What the tests of section 1 tell, and that its reference time is one of the calendar. Other crates cite `Laws`.
+-- That a reference time of section 1 is one of the calendar. Other crates cite `Laws`.
 pub mod Laws

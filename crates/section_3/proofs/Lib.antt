@@ -1,3 +1,2 @@
--- What the tests of section 3 tell, and what is known of a grid that it describes. Other crates cite `Laws`.
-mod Tests
+-- The laws of a grid that a section 3 describes. Other crates cite them.
 pub mod Laws

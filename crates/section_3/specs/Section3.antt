@@ -1,23 +1,17 @@
 -- RULES, "Section 3": the octets of a section with a grid of template 3.0, in degrees, or of template 3.30, a Lambert grid.
-use Rattle.std.specs.Prelude.{ℕ, ◌≤◌, Bool, not, ◌&&◌, cond, List, eqb}
-use Rattle.section.specs.Sections.{octet, held, held_signed, length_at, Lies}
+use Rattle.std.specs.Prelude.{ℕ, Bool, not, ◌&&◌, cond, List, eqb, Option, Some, None}
+use Rattle.section.specs.Sections.{octet, held, held_signed, length_at}
 use Rattle.section_3_geometry.specs.declared.Position.{Position}
 use Rattle.section_3_geometry.specs.declared.Frame.{Frame}
 use Rattle.section_3_geometry.specs.declared.DegreeGrid.{DegreeGrid}
 use Rattle.section_3_geometry.specs.declared.LambertGrid.{LambertGrid}
-use Rattle.section_3_geometry.specs.declared.Grid.TheVariants as Grid
+use Rattle.section_3_geometry.specs.declared.Grid.{Grid}
 use Rattle.section_3_geometry.specs.Geometry.{is_taken}
 use Rattle.section_3_lambert.specs.Lambert.{is_lambert_grid}
-use Rattle.section_3.specs.declared.Radius.{Radius}
-use Rattle.section_3.specs.declared.Gridded.{Gridded}
 
 -- Four octets, all ones.
 abbrev pub all_ones : ℕ
 all_ones = 0xffff_ffff
-
--- A section lies in the file and has so many octets or more.
-abbrev pub LiesWith : List ℕ → ℕ → ℕ → Type 0
-LiesWith file s octets = Lies file s × (octets ≤ length_at file s)
 
 -- The length and the template, octets 13-14, are as told; octets 6, 11 and 12 are zero.
 abbrev pub is_of : List ℕ → ℕ → (length template : ℕ) → Bool
@@ -25,11 +19,11 @@ is_of file s length template = eqb (length_at file s) length && eqb (octet file 
 
 -- The earth's radius. Earth code 1, in octet 15: octet 16 is zero and octets 17-20 hold the radius in metres, which is not 0 and not all ones.
 -- Earth code 6: 6,371,229 m, and octets 16-20 are not judged.
-abbrev pub stated_radius : List ℕ → ℕ → Radius
-stated_radius file s = cond (eqb (octet file s 16) 0 && not (eqb (held file s 17 20) 0) && not (eqb (held file s 17 20) all_ones)) (Radius.Metres (held file s 17 20)) Radius.Unknown
+abbrev pub stated_radius : List ℕ → ℕ → Option ℕ
+stated_radius file s = cond (eqb (octet file s 16) 0 && not (eqb (held file s 17 20) 0) && not (eqb (held file s 17 20) all_ones)) (Some (held file s 17 20)) None
 
-abbrev pub radius_at : List ℕ → ℕ → Radius
-radius_at file s = cond (eqb (octet file s 15) 1) (stated_radius file s) (cond (eqb (octet file s 15) 6) (Radius.Metres 6371229) Radius.Unknown)
+abbrev pub radius_at : List ℕ → ℕ → Option ℕ
+radius_at file s = cond (eqb (octet file s 15) 1) (stated_radius file s) (cond (eqb (octet file s 15) 6) (Some 6371229) None)
 
 -- What both templates have in the same octets: the earth, Ni and Nj.
 abbrev pub frame_at : List ℕ → ℕ → ℕ → Frame
@@ -50,12 +44,12 @@ last_point_at file s = record { latitude = held_signed file s 56 59; longitude =
 abbrev pub degree_numbers_at : List ℕ → ℕ → ℕ → DegreeGrid
 degree_numbers_at file s radius = record { frame = frame_at file s radius; first = first_point_at file s; last = last_point_at file s; di = held file s 64 67; dj = held file s 68 71 }
 
-abbrev pub degrees_by : List ℕ → ℕ → Radius → Gridded
-degrees_by file s (Radius.Metres radius) = cond (is_taken (degree_numbers_at file s radius) (held file s 7 10)) (Gridded.On (Grid.Degrees (degree_numbers_at file s radius))) Gridded.NotTaken
-degrees_by file s Radius.Unknown = Gridded.NotTaken
+abbrev pub degrees_by : List ℕ → ℕ → Option ℕ → Option Grid
+degrees_by file s (Some radius) = cond (is_taken (degree_numbers_at file s radius) (held file s 7 10)) (Some (Grid.Degrees (degree_numbers_at file s radius))) None
+degrees_by file s None = None
 
-abbrev pub degrees_at : List ℕ → ℕ → Gridded
-degrees_at file s = cond (is_scanned file s) (degrees_by file s (radius_at file s)) Gridded.NotTaken
+abbrev pub degrees_at : List ℕ → ℕ → Option Grid
+degrees_at file s = cond (is_scanned file s) (degrees_by file s (radius_at file s)) None
 
 -- Template 3.30. Winds are told along the rows and columns of the grid (octet 47 is 0x08), the north pole is on the sheet (octet 64 is zero), and the points are
 -- scanned to the right in rows that go downward (octet 65 is zero).
@@ -79,13 +73,13 @@ lambert_numbers_at file s radius =
       cut2 = held_signed file s 70 73;
     }
 
-abbrev pub lambert_by : List ℕ → ℕ → Radius → Gridded
-lambert_by file s (Radius.Metres radius) = cond (is_lambert_grid (lambert_numbers_at file s radius) (held file s 7 10)) (Gridded.On (Grid.Lambert (lambert_numbers_at file s radius))) Gridded.NotTaken
-lambert_by file s Radius.Unknown = Gridded.NotTaken
+abbrev pub lambert_by : List ℕ → ℕ → Option ℕ → Option Grid
+lambert_by file s (Some radius) = cond (is_lambert_grid (lambert_numbers_at file s radius) (held file s 7 10)) (Some (Grid.Lambert (lambert_numbers_at file s radius))) None
+lambert_by file s None = None
 
-abbrev pub lambert_at : List ℕ → ℕ → Gridded
-lambert_at file s = cond (is_projected file s) (lambert_by file s (radius_at file s)) Gridded.NotTaken
+abbrev pub lambert_at : List ℕ → ℕ → Option Grid
+lambert_at file s = cond (is_projected file s) (lambert_by file s (radius_at file s)) None
 
 -- The grid of the section 3 at s, or that it is not taken: template 3.0 has 72 octets, and template 3.30 has 81.
-unfoldable pub grid_at : List ℕ → ℕ → Gridded
-grid_at file s = cond (is_of file s 72 0) (degrees_at file s) (cond (is_of file s 81 30) (lambert_at file s) Gridded.NotTaken)
+unfoldable pub grid_at : List ℕ → ℕ → Option Grid
+grid_at file s = cond (is_of file s 72 0) (degrees_at file s) (cond (is_of file s 81 30) (lambert_at file s) None)

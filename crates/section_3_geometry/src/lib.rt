@@ -2,7 +2,7 @@
 #![tactic(auto)]
 
 ghost use Rattle.std.specs.Prelude.{◌≡◌, true, ◌≤◌, ◌<◌, ◌^◌};
-ghost use Rattle.section_3_geometry.specs.Geometry.{frame_of, points_of, is_counted, south_of, is_position, is_cornered, span_east, span_south, is_spanned, is_stepped, is_taken};
+ghost use Rattle.section_3_geometry.specs.Geometry.{frame_of, points_of, is_counted, south_of, is_position, is_cornered, span_east, span_south, is_spanned, is_taken};
 
 use octets::Signed;
 
@@ -76,32 +76,17 @@ pub fn points_of(grid: Grid) -> u32
 pub fn is_counted(frame: Frame, points: u32) -> bool
     ensures { result ≡ is_counted frame points }
 {
-    if frame.ni < 1 {
-        return false;
-    }
-    if 65535 < frame.ni {
-        return false;
-    }
-    if frame.nj < 1 {
-        return false;
-    }
-    if 65535 < frame.nj {
-        return false;
-    }
-    if points != frame.ni * frame.nj {
-        return false;
-    }
-    points <= 16_777_216
+    (1..=65535).contains(&frame.ni)
+        && (1..=65535).contains(&frame.nj)
+        && points == frame.ni * frame.nj
+        && points <= 16_777_216
 }
 
 // Is it a latitude and a longitude?
 pub fn is_position(position: Position) -> bool
     ensures { result ≡ is_position position }
 {
-    if 90_000_000 < position.latitude.size {
-        return false;
-    }
-    position.longitude <= 359_999_999
+    position.latitude.size <= 90_000_000 && position.longitude <= 359_999_999
 }
 
 // How far south of the north pole a latitude lies.
@@ -122,13 +107,7 @@ fn is_cornered(grid: DegreeGrid) -> bool
 {
     let first = grid.first;
     let last = grid.last;
-    if !is_position(first) {
-        return false;
-    }
-    if !is_position(last) {
-        return false;
-    }
-    south_of(first.latitude) <= south_of(last.latitude)
+    is_position(first) && is_position(last) && south_of(first.latitude) <= south_of(last.latitude)
 }
 
 // How far east of the first point the last one lies: past 360 degrees where its longitude is the smaller one.
@@ -161,32 +140,15 @@ fn is_spanned(steps: u32, step: u32, span: u64) -> bool
     ensures { result ≡ is_spanned steps step span }
 {
     let steady = steps as u64 * step as u64;
-    if steady + (steps as u64) < span {
-        return false;
-    }
-    steady <= span + steps as u64
+    span <= steady + steps as u64 && steady <= span + steps as u64
 }
 
-// Do the spans east and south agree with the steps?
-fn is_stepped(grid: DegreeGrid) -> bool
-    requires { (1 ≤ grid.frame.ni) × (grid.frame.ni ≤ 65535) × (1 ≤ grid.frame.nj) × (grid.frame.nj ≤ 65535) × (is_cornered grid ≡ true) }
-    ensures { result ≡ is_stepped grid }
-{
-    if !is_spanned(grid.frame.ni - 1, grid.di, span_east(grid)) {
-        return false;
-    }
-    is_spanned(grid.frame.nj - 1, grid.dj, span_south(grid))
-}
-
-// Do these numbers make a grid in degrees with so many points?
+// Do these numbers make a grid in degrees with so many points, whose spans east and south agree with its steps?
 pub fn is_taken(grid: DegreeGrid, points: u32) -> bool
     ensures { result ≡ is_taken grid points }
 {
-    if !is_counted(grid.frame, points) {
-        return false;
-    }
-    if !is_cornered(grid) {
-        return false;
-    }
-    is_stepped(grid)
+    is_counted(grid.frame, points)
+        && is_cornered(grid)
+        && is_spanned(grid.frame.ni - 1, grid.di, span_east(grid))
+        && is_spanned(grid.frame.nj - 1, grid.dj, span_south(grid))
 }

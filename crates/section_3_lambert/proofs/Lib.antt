@@ -1,3 +1,2 @@
--- What the tests of a Lambert grid tell, and the laws of one that is taken.
-mod Tests
+-- The laws of a Lambert grid that is taken. Other crates cite them.
 pub mod Laws

@@ -18,48 +18,27 @@ pub struct SheetPlace {
 fn is_spaced(grid: LambertGrid) -> bool
     ensures { result ≡ is_spaced grid }
 {
-    if grid.dx < 1 {
-        return false;
-    }
-    if 2_147_483_647 < grid.dx {
-        return false;
-    }
-    if grid.dy < 1 {
-        return false;
-    }
-    grid.dy <= 2_147_483_647
+    (1..=2_147_483_647).contains(&grid.dx) && (1..=2_147_483_647).contains(&grid.dy)
 }
 
 // Are the angles of the cone latitudes and a longitude?
 fn is_coned(grid: LambertGrid) -> bool
     ensures { result ≡ is_coned grid }
 {
-    if 90_000_000 < grid.stated.size {
-        return false;
-    }
-    if 359_999_999 < grid.upright {
-        return false;
-    }
-    if 90_000_000 < grid.cut1.size {
-        return false;
-    }
-    grid.cut2.size <= 90_000_000
+    grid.stated.size <= 90_000_000
+        && grid.upright <= 359_999_999
+        && grid.cut1.size <= 90_000_000
+        && grid.cut2.size <= 90_000_000
 }
 
 // Do these numbers make a Lambert grid with so many points?
 pub fn is_taken(grid: LambertGrid, points: u32) -> bool
     ensures { result ≡ is_lambert_grid grid points }
 {
-    if !section_3_geometry::is_counted(grid.frame, points) {
-        return false;
-    }
-    if !section_3_geometry::is_position(grid.first) {
-        return false;
-    }
-    if !is_coned(grid) {
-        return false;
-    }
-    is_spaced(grid)
+    section_3_geometry::is_counted(grid.frame, points)
+        && section_3_geometry::is_position(grid.first)
+        && is_coned(grid)
+        && is_spaced(grid)
 }
 
 // Where point `n` of the grid lies on the sheet.

@@ -1,11 +1,11 @@
 -- The laws of places: a point of a grid lies at one place, which the code works out, and the places are as a reader expects.
 use mathlib.Core.Path.{◌≡◌, refl, sym, ap, ◌∙◌}
-use mathlib.Core.Bool.{true, ◌&&◌}
+use mathlib.Core.Bool.{true}
 use Prim.Native.Nat.{ℕ, ◌+◌, ◌-◌, ◌*◌, ◌≤◌, ◌<◌}
 use native.Mathlib.Nat.{mod-lt, mul_comm, div-lt_iff_lt-mul}
 use native.Mathlib.Omega.{arith}
 use borrow.Author.Tests.{ltb-true, ltb-false, leb-true, le-leb}
-use lib.Dec.{ltb, leb}
+use lib.Dec.{ltb}
 use lib.IntN.{ℤ, pos, ◌-ℤ◌}
 use Rattle.octets.proofs.Cases.{split, both}
 use Rattle.octets.proofs.Whole.{minus_less, minus_more, minus_sum}
@@ -13,7 +13,7 @@ use Rattle.octets.specs.declared.Signed.{Signed}
 use Rattle.octets.specs.Numbers.{whole}
 use Rattle.section_3_geometry.specs.declared.Position.{Position}
 use Rattle.section_3_geometry.specs.declared.DegreeGrid.{DegreeGrid}
-use Rattle.section_3_geometry.specs.Geometry.{column_of, row_of, Measured, points_in, is_counted, is_cornered, is_spanned, is_stepped, is_taken, south_of, span_east, span_south}
+use Rattle.section_3_geometry.specs.Geometry.{column_of, row_of, Measured, points_in, is_taken, south_of, span_east, span_south}
 use Rattle.section_3_geometry.proofs.Tests.{Cornered, cornered, south_bound}
 use Rattle.section_3_geometry.proofs.Laws.{taken_measured, south_is, south_orders}
 use Rattle.section_3_positions.specs.Positions.{longitude_at, latitude_at, LiesAt}
@@ -61,33 +61,23 @@ latitude_is {g} first l =
 
 -- Down to the south pole the latitude is one, and lies as far south as was said.
 at_most : (south : ℕ) → south ≤ 180000000 → (latitude_at south).size ≤ 90000000
-at_most south few = split (ltb 90000000 south) (λ past. rw past (omega arith)) (λ before. rw before (omega arith))
+at_most south few = grind arith
 
 south_back : (south : ℕ) → south ≤ 180000000 → south_of (latitude_at south) ≡ south
-south_back south few =
-    split (ltb 90000000 south)
-    (λ past. rw past (omega (arith, ltb-true 90000000 south past)))
-    (λ before. rw before (omega (arith, ltb-false 90000000 south before)))
+south_back south few = grind arith
 
 -- What is known of a grid that is taken: its steps are as many as its spans allow, so that a single column, or row, has no span.
 spans : (g : DegreeGrid) (points : ℕ) → is_taken g points ≡ true → (span_east g ≤ (g.frame.ni - 1) * g.di + (g.frame.ni - 1)) × (span_south g ≤ (g.frame.nj - 1) * g.dj + (g.frame.nj - 1))
 spans g points taken =
-    let columns = g.frame.ni - 1 in
-    let rows = g.frame.nj - 1 in
-    let stepped = both (is_spanned columns g.di (span_east g)) (is_spanned rows g.dj (span_south g)) (both (is_counted g.frame points && is_cornered g) (is_stepped g) taken).1 in (
-      leb-true (span_east g) (columns * g.di + columns) (both (leb (span_east g) (columns * g.di + columns)) (leb (columns * g.di) (span_east g + columns)) stepped.0).0,
-      leb-true (span_south g) (rows * g.dj + rows) (both (leb (span_south g) (rows * g.dj + rows)) (leb (rows * g.dj) (span_south g + rows)) stepped.1).0,
-    )
+    let stepped = both _ _ (both _ _ taken).1 in
+    (leb-true _ _ (both _ _ stepped.0).0, leb-true _ _ (both _ _ stepped.1).0)
 
 no_steps : (count step span : ℕ) → span ≤ (count - 1) * step + (count - 1) → count ≡ 1 → span ≡ 0
 no_steps count step span most one = omega (arith, rw one at most)
 
 -- The first longitude and the span east of it lead to the last.
 east_reaches : (g : DegreeGrid) → Cornered g → longitude_at (g.first.longitude + span_east g) ≡ g.last.longitude
-east_reaches g corners =
-    split (ltb g.last.longitude g.first.longitude)
-    (λ past. rw past (omega (arith, ltb-true g.last.longitude g.first.longitude past, corners.first.longitude, corners.last.longitude)))
-    (λ before. rw before (omega (arith, ltb-false g.last.longitude g.first.longitude before, corners.last.longitude)))
+east_reaches g corners = grind arith
 
 module _ (g : DegreeGrid) (points : ℕ) (taken : is_taken g points ≡ true) where
   measured : Measured g

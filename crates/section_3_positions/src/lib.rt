@@ -13,15 +13,9 @@ use section_3_geometry::{DegreeGrid, Position};
 fn latitude_at(south: u64) -> Signed
     ensures { result ≡ latitude_at south }
 {
-    if 90_000_000 < south {
-        return Signed {
-            negative: true,
-            size: south - 90_000_000,
-        };
-    }
     Signed {
-        negative: false,
-        size: 90_000_000 - south,
+        negative: 90_000_000 < south,
+        size: south.abs_diff(90_000_000),
     }
 }
 

@@ -2,18 +2,20 @@
 #![tactic(auto)]
 
 ghost use Rattle.std.specs.Prelude.{◌≡◌, true, ◌≤◌};
-ghost use Rattle.section.specs.Sections.{Lies, length_at};
+ghost use Rattle.section.specs.Sections.{length_at};
 ghost use Rattle.calendar.specs.Calendar.{Gregorian, ordered};
-ghost use Rattle.section_4.specs.Product.{is_template, is_product, level_at, reached, later, agreed, interval_at, product_at, product_definition_at};
+ghost use Rattle.section_4.specs.Product.{is_template, is_product, level_at, later, GivesKind, agreed, interval_at, product_at, product_definition_at};
 
-use calendar::{Later, Order, Reading, Time, Unit};
-use octets::{FilePlace, OctetNumber, Signed};
+use calendar::{Time, Unit};
+use octets::{OctetNumber, Signed};
+use section::FileSection;
+use std::cmp::Ordering;
 
-// The level of the first surface: the scaled level over 10 ^ factor, or none, as for the ground and mean sea level.
+// The level of a surface: the scaled level over 10 ^ factor.
 #[derive(Clone, Copy)]
-pub enum Level {
-    Absent,
-    At { factor: Signed, scaled: u32 },
+pub struct Level {
+    pub factor: Signed,
+    pub scaled: u32,
 }
 
 // What a field over an interval is.
@@ -23,6 +25,24 @@ pub enum Kind {
     Sum,
 }
 
+// A number that stands for no kind.
+#[derive(Clone, Copy)]
+pub struct UnknownKind(pub u8);
+
+impl TryFrom<u8> for Kind {
+    type Error = UnknownKind;
+
+    ghost try_from_gives = { GivesKind };
+
+    fn try_from(number: u8) -> Result<Self, UnknownKind> {
+        match number {
+            0 => Ok(Kind::Mean),
+            1 => Ok(Kind::Sum),
+            _ => Err(UnknownKind(number)),
+        }
+    }
+}
+
 // A field is of an instant, the valid time, or of an interval that starts then.
 #[derive(Clone, Copy)]
 pub enum Product {
@@ -30,188 +50,119 @@ pub enum Product {
     Interval { end: Time, kind: Kind },
 }
 
-// What section 4 says.
+// What section 4 says. There is no level for the ground, for example, or for mean sea level.
 #[derive(Clone, Copy)]
 pub struct ProductDefinition {
     pub category: u8,
     pub parameter: u8,
     pub process: u8,
     pub surface: u8,
-    pub level: Level,
+    pub level: Option<Level>,
     pub product: Product,
     pub valid: Time,
 }
 
-#[derive(Clone, Copy)]
-pub enum Defined {
-    As(ProductDefinition),
-    NotTaken,
-}
-
-#[derive(Clone, Copy)]
-pub enum LevelReading {
-    Is(Level),
-    Bad,
-}
-
-#[derive(Clone, Copy)]
-pub enum ProductReading {
-    Is(Product),
-    Bad,
-}
-
-// A time that is reached, or none: the unit is not known, or the year 2399 is passed.
-#[derive(Clone, Copy)]
-pub enum Moment {
-    At(Time),
-    Never,
-}
-
 // Is it template 4.0 in 34 octets, or template 4.8 in 58?
-fn is_template(file: &[u8], at: FilePlace) -> bool
-    requires { Lies file.now at.0 }
-    ensures { result ≡ is_template file.now at.0 }
+fn is_template(section: FileSection) -> bool
+    ensures { result ≡ is_template section.entry.file.now section.entry.at.0 }
 {
-    let length = section::length_of(file, at);
-    if length == 34 {
-        return section::held(file, at, OctetNumber(8), OctetNumber(9)) == 0;
+    match section.length() {
+        34 => section.held(OctetNumber(8), OctetNumber(9)) == 0,
+        58 => section.held(OctetNumber(8), OctetNumber(9)) == 8,
+        _ => false,
     }
-    if length != 58 {
-        return false;
-    }
-    section::held(file, at, OctetNumber(8), OctetNumber(9)) == 8
 }
 
 // Does the section have the octets that every product has?
-fn is_product(file: &[u8], at: FilePlace) -> bool
-    requires { Lies file.now at.0 }
-    ensures { result ≡ is_product file.now at.0 }
+fn is_product(section: FileSection) -> bool
+    ensures { result ≡ is_product section.entry.file.now section.entry.at.0 }
 {
-    if !is_template(file, at) {
-        return false;
-    }
-    if section::held(file, at, OctetNumber(6), OctetNumber(7)) != 0 {
-        return false;
-    }
-    if 2_147_483_647 < section::held(file, at, OctetNumber(19), OctetNumber(22)) {
-        return false;
-    }
-    if section::octet(file, at, OctetNumber(23)) == 255 {
-        return false;
-    }
-    section::held(file, at, OctetNumber(29), OctetNumber(34)) == 0xffff_ffff_ffff
+    is_template(section)
+        && section.held(OctetNumber(6), OctetNumber(7)) == 0
+        && section.held(OctetNumber(19), OctetNumber(22)) <= 2_147_483_647
+        && section.octet(OctetNumber(23)) != 255
+        && section.held(OctetNumber(29), OctetNumber(34)) == 0xffff_ffff_ffff
 }
 
-// The level of the first surface. Factor and scaled level are missing together or not at all.
-fn level_at(file: &[u8], at: FilePlace) -> LevelReading
-    requires { (Lies file.now at.0) × (34 ≤ length_at file.now at.0) }
-    ensures { result ≡ level_at file.now at.0 }
+// The level of the first surface. Factor and scaled level are missing together, and there is no level then, or not at all.
+fn level_at(section: FileSection) -> Option<Option<Level>>
+    requires { 34 ≤ length_at section.file.now section.at.0 }
+    ensures { result ≡ level_at section.entry.file.now section.entry.at.0 }
 {
-    let scaled = section::held(file, at, OctetNumber(25), OctetNumber(28)) as u32;
-    if section::octet(file, at, OctetNumber(24)) == 255 {
-        if scaled == 0xffff_ffff {
-            return LevelReading::Is(Level::Absent);
+    let scaled = section.held(OctetNumber(25), OctetNumber(28)) as u32;
+    match (section.octet(OctetNumber(24)), scaled) {
+        (255, 0xffff_ffff) => Some(None),
+        (0..=254, 0..=2_147_483_647) => {
+            let factor = section.held_signed(OctetNumber(24), OctetNumber(24));
+            Some(Some(Level { factor, scaled }))
         }
-        return LevelReading::Bad;
-    }
-    if 2_147_483_647 < scaled {
-        return LevelReading::Bad;
-    }
-    let factor = section::held_signed(file, at, OctetNumber(24), OctetNumber(24));
-    LevelReading::Is(Level::At { factor, scaled })
-}
-
-fn reach(later: Later) -> Moment
-    ensures { result ≡ reached later }
-{
-    match later {
-        Later::At(time) => Moment::At(time),
-        Later::Passes2399 => Moment::Never,
+        _ => None,
     }
 }
 
-// The time `count` units after `time`.
-fn later(time: Time, count: u32, unit: u8) -> Moment
+// The time `count` units after `time`, where the unit is known and the year 2399 is not passed.
+fn later(time: Time, count: u32, unit: u8) -> Option<Time>
     requires { Gregorian time }
     ensures { result ≡ later time count unit }
 {
-    match unit {
-        0 => reach(calendar::plus(time, count, Unit::Minute)),
-        1 => reach(calendar::plus(time, count, Unit::Hour)),
-        2 => reach(calendar::plus(time, count, Unit::Day)),
-        _ => Moment::Never,
-    }
+    calendar::plus(time, count, Unit::try_from(unit).ok()?)
 }
 
 // An interval with the end that is told, where that is the time that its length leads to.
-fn agreed(kind: Kind, end: Time, reached: Time) -> ProductReading
+fn agreed(kind: Kind, end: Time, reached: Time) -> Option<Product>
     requires { (Gregorian end) × (Gregorian reached) }
     ensures { result ≡ agreed end kind (ordered end reached) }
 {
     match calendar::compare(end, reached) {
-        Order::Same => ProductReading::Is(Product::Interval { end, kind }),
-        Order::Before => ProductReading::Bad,
-        Order::After => ProductReading::Bad,
+        Ordering::Equal => Some(Product::Interval { end, kind }),
+        Ordering::Less | Ordering::Greater => None,
     }
 }
 
 // The interval that starts at `valid`.
-fn interval_at(file: &[u8], at: FilePlace, valid: Time) -> ProductReading
-    requires { (Lies file.now at.0) × (length_at file.now at.0 ≡ 58) × (Gregorian valid) }
-    ensures { result ≡ interval_at file.now at.0 valid }
+fn interval_at(section: FileSection, valid: Time) -> Option<Product>
+    requires { (length_at section.file.now section.at.0 ≡ 58) × (Gregorian valid) }
+    ensures { result ≡ interval_at section.entry.file.now section.entry.at.0 valid }
 {
-    if section::octet(file, at, OctetNumber(42)) != 1 {
-        return ProductReading::Bad;
+    if section.octet(OctetNumber(42)) != 1 {
+        return None;
     }
-    let Reading::At(end) = calendar::time_at(file, octets::place_of(at, OctetNumber(35))) else {
-        return ProductReading::Bad;
-    };
-    let count = section::held(file, at, OctetNumber(50), OctetNumber(53)) as u32;
-    let Moment::At(reached) = later(valid, count, section::octet(file, at, OctetNumber(49))) else {
-        return ProductReading::Bad;
-    };
-    match section::octet(file, at, OctetNumber(47)) {
-        0 => agreed(Kind::Mean, end, reached),
-        1 => agreed(Kind::Sum, end, reached),
-        _ => ProductReading::Bad,
-    }
+    let end = calendar::time_at(section.file, octets::place_of(section.at, OctetNumber(35)))?;
+    let count = section.held(OctetNumber(50), OctetNumber(53)) as u32;
+    let reached = later(valid, count, section.octet(OctetNumber(49)))?;
+    let kind = Kind::try_from(section.octet(OctetNumber(47))).ok()?;
+    agreed(kind, end, reached)
 }
 
 // The product: an instant, or an interval that starts at `valid`.
-fn product_at(file: &[u8], at: FilePlace, valid: Time) -> ProductReading
-    requires { (Lies file.now at.0) × (is_template file.now at.0 ≡ true) × (Gregorian valid) }
-    ensures { result ≡ product_at file.now at.0 valid }
+fn product_at(section: FileSection, valid: Time) -> Option<Product>
+    requires { (is_template section.file.now section.at.0 ≡ true) × (Gregorian valid) }
+    ensures { result ≡ product_at section.entry.file.now section.entry.at.0 valid }
 {
-    if section::held(file, at, OctetNumber(8), OctetNumber(9)) == 0 {
-        return ProductReading::Is(Product::Instant);
+    if section.held(OctetNumber(8), OctetNumber(9)) == 0 {
+        return Some(Product::Instant);
     }
-    interval_at(file, at, valid)
+    interval_at(section, valid)
 }
 
-// What the section 4 at `at` says of a field whose reference time is `reference`, or that it is not taken.
-pub fn product_definition_at(file: &[u8], at: FilePlace, reference: Time) -> Defined
-    requires { (Lies file.now at.0) × (Gregorian reference) }
-    ensures { result ≡ product_definition_at file.now at.0 reference }
+// What section 4 says of a field whose reference time is `reference`, where it is taken.
+#[tactic(auto, unfolding(crate::specs::Product::product_definition_at))]
+pub fn product_definition_at(section: FileSection, reference: Time) -> Option<ProductDefinition>
+    requires { Gregorian reference }
+    ensures { result ≡ product_definition_at section.entry.file.now section.entry.at.0 reference }
 {
-    if !is_product(file, at) {
-        return Defined::NotTaken;
+    if !is_product(section) {
+        return None;
     }
-    let count = section::held(file, at, OctetNumber(19), OctetNumber(22)) as u32;
-    let Moment::At(valid) = later(reference, count, section::octet(file, at, OctetNumber(18)))
-    else {
-        return Defined::NotTaken;
-    };
-    let LevelReading::Is(level) = level_at(file, at) else {
-        return Defined::NotTaken;
-    };
-    let ProductReading::Is(product) = product_at(file, at, valid) else {
-        return Defined::NotTaken;
-    };
-    let category = section::octet(file, at, OctetNumber(10));
-    let parameter = section::octet(file, at, OctetNumber(11));
-    let process = section::octet(file, at, OctetNumber(12));
-    let surface = section::octet(file, at, OctetNumber(23));
-    Defined::As(ProductDefinition {
+    let count = section.held(OctetNumber(19), OctetNumber(22)) as u32;
+    let valid = later(reference, count, section.octet(OctetNumber(18)))?;
+    let level = level_at(section)?;
+    let product = product_at(section, valid)?;
+    let category = section.octet(OctetNumber(10));
+    let parameter = section.octet(OctetNumber(11));
+    let process = section.octet(OctetNumber(12));
+    let surface = section.octet(OctetNumber(23));
+    Some(ProductDefinition {
         category,
         parameter,
         process,

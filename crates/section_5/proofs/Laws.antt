@@ -10,50 +10,49 @@ use Rattle.section_5_groups.specs.declared.Grouping.{Grouping}
 use Rattle.section_5_groups.specs.Groups.{grouping_at, is_grouping}
 use Rattle.section_5_groups.proofs.Laws.{Grouped, grouped}
 use Rattle.section_5.specs.declared.Template.{Template}
-use Rattle.section_5.specs.declared.TemplateReading.{TemplateReading}
 use Rattle.section_5.specs.declared.Representation.{Representation}
-use Rattle.section_5.specs.declared.Represented.TheVariants as Represented
 use Rattle.section_5.specs.Representation.{representation_with, is_scaled, data_template_at, represented_by, representation_at}
 use Rattle.section_5.proofs.Tests.{limited, complex_is_grouped}
+use Rattle.std.specs.Prelude.{Option, Some, None}
 
 -- What a representation that is said was read from.
-record ReadFrom (file : List ℕ) (s : ℕ) (r : Representation) (reading : TemplateReading) : Type 0 where
-  template : reading ≡ TemplateReading.Is r.template
+record ReadFrom (file : List ℕ) (s : ℕ) (r : Representation) (reading : Option Template) : Type 0 where
+  template : reading ≡ Some r.template
   scaled : is_scaled file s ≡ true
   whole : representation_with file s r.template ≡ r
 
 module _ (file : List ℕ) (s : ℕ) where
-  read_from_lem : {r : Representation} (reading : TemplateReading) → represented_by file s reading ≡ Represented.By r → ReadFrom file s r reading
-  read_from_lem {r} (TemplateReading.Is t) said =
+  read_from_lem : {r : Representation} (reading : Option Template) → represented_by file s reading ≡ Some r → ReadFrom file s r reading
+  read_from_lem {r} (Some t) said =
       split (is_scaled file s)
       (λ e.
       let same : representation_with file s t ≡ r = cc in
       let template : t ≡ r.template = ap (λ (r : Representation). r.template) same in
-      record { template = ap (λ (t : Template). TemplateReading.Is t) template; scaled = e; whole = ap (representation_with file s) (sym template) ∙ same })
+      record { template = ap (λ (t : Template). Some t) template; scaled = e; whole = ap (representation_with file s) (sym template) ∙ same })
       (λ e. apart cc)
-  read_from_lem {r} TemplateReading.Bad said = apart cc
+  read_from_lem {r} None said = apart cc
 
-  is_read : {r : Representation} → representation_at file s ≡ Represented.By r → ReadFrom file s r (data_template_at file s)
+  is_read : {r : Representation} → representation_at file s ≡ Some r → ReadFrom file s r (data_template_at file s)
   unfolding representation_at
   is_read said = read_from_lem (data_template_at file s) said
 
   -- What is taken has its numbers within their limits.
-  pub represented : {r : Representation} → representation_at file s ≡ Represented.By r → Scaled r.r r.e r.d
+  pub represented : {r : Representation} → representation_at file s ≡ Some r → Scaled r.r r.e r.d
   represented said =
       let from = is_read said in
       subst (λ (r : Representation). Scaled r.r r.e r.d) from.whole (limited file s from.scaled).scaled
 
-  pub represented_bits : {r : Representation} → representation_at file s ≡ Represented.By r → r.bits ≤ 31
+  pub represented_bits : {r : Representation} → representation_at file s ≡ Some r → r.bits ≤ 31
   represented_bits said =
       let from = is_read said in
       subst (λ (r : Representation). r.bits ≤ 31) from.whole (limited file s from.scaled).bits31
 
   -- Its groups, where it has template 5.3, are those that the octets tell.
-  groups_read : {r : Representation} {g : Grouping} → representation_at file s ≡ Represented.By r → r.template ≡ Template.Complex g → (grouping_at file s ≡ g) × (is_grouping (grouping_at file s) (held file s 6 9) ≡ true)
-  groups_read {r} {g} said complex = complex_is_grouped file s ((is_read said).template ∙ ap (λ (t : Template). TemplateReading.Is t) complex)
+  groups_read : {r : Representation} {g : Grouping} → representation_at file s ≡ Some r → r.template ≡ Template.Complex g → (grouping_at file s ≡ g) × (is_grouping (grouping_at file s) (held file s 6 9) ≡ true)
+  groups_read {r} {g} said complex = complex_is_grouped file s ((is_read said).template ∙ ap (λ (t : Template). Some t) complex)
 
   -- The groups of template 5.3 are within theirs.
-  pub represented_groups : {r : Representation} {g : Grouping} → representation_at file s ≡ Represented.By r → r.template ≡ Template.Complex g → Grouped g r.n
+  pub represented_groups : {r : Representation} {g : Grouping} → representation_at file s ≡ Some r → r.template ≡ Template.Complex g → Grouped g r.n
   represented_groups {r} {g} said complex =
       let groups = groups_read said complex in
       let count : held file s 6 9 ≡ r.n = ap (λ (r : Representation). r.n) (is_read said).whole in

@@ -1,14 +1,12 @@
 -- RULES, "Section 5": how the values of a field are packed.
-use Rattle.std.specs.Prelude.{ℕ, Bool, ◌&&◌, cond, List, eqb, leb}
+use Rattle.std.specs.Prelude.{ℕ, Bool, ◌&&◌, cond, List, eqb, leb, Option, Some, None}
 use Rattle.std.specs.Float.{binary32}
 use Rattle.std.specs.Float.Ieee.{of_bits}
 use Rattle.std.specs.Float.Ieee.Scale.{finite}
 use Rattle.section.specs.Sections.{octet, held, held_signed, length_at}
 use Rattle.section_5_groups.specs.Groups.{grouping_at, is_differenced, is_grouping}
 use Rattle.section_5.specs.declared.Template.{Template}
-use Rattle.section_5.specs.declared.TemplateReading.{TemplateReading}
 use Rattle.section_5.specs.declared.Representation.{Representation}
-use Rattle.section_5.specs.declared.Represented.{Represented}
 
 -- R, in octets 12-15, is finite; E, in 16-17, is from -127 to 127, and D, in 18-19, from -22 to 22; a number has 0 to 31 bits (octet 20), and
 -- the values were doubles before (octet 21 is zero).
@@ -20,15 +18,15 @@ is_scaled file s =
     && leb (octet file s 20) 31
     && eqb (octet file s 21) 0
 
-abbrev pub complex_at : List ℕ → ℕ → TemplateReading
-complex_at file s = cond (is_differenced file s && is_grouping (grouping_at file s) (held file s 6 9)) (TemplateReading.Is (Template.Complex (grouping_at file s))) TemplateReading.Bad
+abbrev pub complex_at : List ℕ → ℕ → Option Template
+complex_at file s = cond (is_differenced file s && is_grouping (grouping_at file s) (held file s 6 9)) (Some (Template.Complex (grouping_at file s))) None
 
 -- Octets 10-11 hold the template: 0, simple packing, in a section of 21 octets, or 3, complex packing with spatial differencing, in one of 49.
-abbrev pub data_template_at : List ℕ → ℕ → TemplateReading
+abbrev pub data_template_at : List ℕ → ℕ → Option Template
 data_template_at file s =
-    cond (eqb (length_at file s) 21 && eqb (held file s 10 11) 0) (TemplateReading.Is Template.Simple)
+    cond (eqb (length_at file s) 21 && eqb (held file s 10 11) 0) (Some Template.Simple)
     (cond (eqb (length_at file s) 49 && eqb (held file s 10 11) 3) (complex_at file s)
-    TemplateReading.Bad)
+    None)
 
 -- N stands in octets 6-9. R is told by its 32 bits.
 abbrev pub representation_with : List ℕ → ℕ → Template → Representation
@@ -42,12 +40,12 @@ representation_with file s template =
       template = template;
     }
 
-abbrev pub represented_by : List ℕ → ℕ → TemplateReading → Represented
-represented_by file s (TemplateReading.Is template) = cond (is_scaled file s) (Represented.By (representation_with file s template)) Represented.NotTaken
-represented_by file s TemplateReading.Bad = Represented.NotTaken
+abbrev pub represented_by : List ℕ → ℕ → Option Template → Option Representation
+represented_by file s (Some template) = cond (is_scaled file s) (Some (representation_with file s template)) None
+represented_by file s None = None
 
 -- What the section 5 at s says, or that it is not taken.
-unfoldable pub representation_at : List ℕ → ℕ → Represented
+unfoldable pub representation_at : List ℕ → ℕ → Option Representation
 representation_at file s = represented_by file s (data_template_at file s)
 
 -- The number of each data template.

@@ -1,14 +1,12 @@
--- What each test of template 5.3 tells, and what a caller may rely on where its groups are taken: their limits.
+-- What a caller may rely on where its groups are taken: their limits.
 use mathlib.Core.Path.{◌≡◌}
-use mathlib.Core.Bool.{true, false}
-use mathlib.Core.List.{List}
+use mathlib.Core.Bool.{true}
 use Prim.Native.Nat.{ℕ, ◌≤◌}
-use borrow.Author.Tests.{leb-true, eq-eqb, ne_eqb, le-leb}
-use lib.Dec.{eqb, leb}
-use Rattle.octets.proofs.Cases.{split, both}
-use Rattle.section.specs.Sections.{octet}
+use borrow.Author.Tests.{leb-true}
+use lib.Dec.{leb}
+use Rattle.octets.proofs.Cases.{both}
 use Rattle.section_5_groups.specs.declared.Grouping.{Grouping}
-use Rattle.section_5_groups.specs.Groups.{is_differenced, is_grouping}
+use Rattle.section_5_groups.specs.Groups.{is_grouping}
 
 -- The groups of n values in template 5.3: the reference width, and the bits of a stored width and of a stored length, are at most 31; each of the
 -- three numbers that stand before the groups has 1 to 4 octets; there are at least two values, and from 1 to n groups.
@@ -43,30 +41,3 @@ module _ (g : Grouping) (n : ℕ) where
         groups1 = leb-true _ _ groups1.1;
         groups_n = leb-true _ _ groups_n.1;
       }
-
-  pub grouped_not : (Grouped g n → ⊥) → is_grouping g n ≡ false
-  grouped_not out = split (is_grouping g n) (λ e. absurd (out (grouped e))) (λ e. e)
-
--- Where the other bounds hold, the number of groups decides.
-pub groups_decide : (g : Grouping) (n : ℕ) → (g.widths.reference ≤ 31) × (g.widths.bits ≤ 31) × (g.lengths.bits ≤ 31) × (1 ≤ g.extra) × (g.extra ≤ 4) × (2 ≤ n) × (1 ≤ g.groups) → is_grouping g n ≡ leb g.groups n
-groups_decide g n h =
-    simp (
-      le-leb _ _ h.0,
-      le-leb _ _ h.1,
-      le-leb _ _ h.2,
-      le-leb _ _ h.3,
-      le-leb _ _ h.4,
-      le-leb _ _ h.5,
-      le-leb _ _ h.6,
-    )
-
-module _ (file : List ℕ) (s : ℕ) where
-  -- What is said of the differences follows from the octets in turn.
-  pub no_groups : (octet file s 22 ≡ 1 → ⊥) → is_differenced file s ≡ false
-  no_groups other = simp (ne_eqb _ _ other)
-
-  pub missing_values : octet file s 22 ≡ 1 → (octet file s 23 ≡ 0 → ⊥) → is_differenced file s ≡ false
-  missing_values groups other = simp (eq-eqb _ _ groups, ne_eqb _ _ other)
-
-  pub order_decides : octet file s 22 ≡ 1 → octet file s 23 ≡ 0 → is_differenced file s ≡ eqb (octet file s 48) 2
-  order_decides groups missing = simp (eq-eqb _ _ groups, eq-eqb _ _ missing)

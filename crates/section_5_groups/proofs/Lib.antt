@@ -1,2 +1,2 @@
--- What the tests of template 5.3 tell, and what a caller may rely on.
+-- What a caller may rely on where template 5.3 is taken.
 pub mod Laws

@@ -6,7 +6,7 @@ use Prim.Native.Nat.{ℕ, zero, suc, ◌≤◌}
 use native.Mathlib.Omega.{arith}
 use lib.Dec.{eqb, ltb}
 use lib.ListN.{length, length-take, length-drop}
-use borrow.Author.Tests.{eq-eqb, ne_eqb, eqb-true}
+use borrow.Author.Tests.{eqb-true}
 use Rattle.octets.specs.declared.FilePlace.{FilePlace}
 use Rattle.octets.specs.Places.{at}
 use Rattle.octets.proofs.Cases.{apart, split}
@@ -14,11 +14,10 @@ use Rattle.section.specs.Sections.{Lies, octet, length_at}
 use Rattle.bits.specs.Bits.{octets_of}
 use Rattle.bits_ones.specs.Ones.{ones_before}
 use Rattle.bits_ones.proofs.Laws.{ones_most}
-use Rattle.tiling_sections.specs.declared.Bitmap.{Bitmap}
 use Rattle.section_6.specs.declared.Presence as declared
-use Rattle.section_6.specs.declared.Presence.TheVariants as Presence
-use Rattle.section_6.specs.declared.Marked.{Marked}
-use Rattle.section_6.specs.Presence.{bitmap_length, bitmap_in, is_bitmap, own_at, earlier_at, all_of, without_bitmap, presence_at, present_before}
+use Rattle.section_6.specs.declared.Presence.{Presence}
+use Rattle.section_6.specs.Presence.{bitmap_length, bitmap_in, is_bitmap, own_at, earlier_at, all_of, presence_at, present_before}
+use Rattle.std.specs.Prelude.{Option, Some, None}
 
 -- The section 6 at p has a bitmap for so many points, of which n are present.
 pub record Fitting (file : List ℕ) (p points n : ℕ) : Type 0 where
@@ -26,49 +25,40 @@ pub record Fitting (file : List ℕ) (p points n : ℕ) : Type 0 where
   pub ones : ones_before (bitmap_in file p points) points ≡ n
 
 module _ (file : List ℕ) (p points n : ℕ) where
-  -- The section's length decides, and then how many bits are set.
-  pub other_length : (length_at file p ≡ bitmap_length points → ⊥) → is_bitmap file p points n ≡ false
-  other_length differs = rw (ne_eqb _ _ differs)
-
-  pub right_length : length_at file p ≡ bitmap_length points → is_bitmap file p points n ≡ eqb (ones_before (bitmap_in file p points) points) n
-  right_length same = rw (eq-eqb _ _ same)
-
   -- What a bitmap tells.
   pub is_bitmap_tells : is_bitmap file p points n ≡ true → Fitting file p points n
-  is_bitmap_tells e =
-      split (eqb (length_at file p) (bitmap_length points)) (λ i. record { length = eqb-true _ _ i; ones = eqb-true _ _ (rw i at e) })
-      (λ i. apart (cc (rw i at e)))
+  is_bitmap_tells e = grind arith
 
 -- A bitmap has a bit for each point.
 pub bitmap_length_lem : (file : List ℕ) (p points : ℕ) → Lies file p → length_at file p ≡ bitmap_length points → length (bitmap_in file p points) ≡ octets_of points
 bitmap_length_lem file p points lies same = simp (length-take, length-drop) (omega arith)
 
 -- What is known where section 6 is taken: of each case, whose bitmap it is, and that it marks n points.
-abbrev pub Told : List ℕ → ℕ → Bitmap → ℕ → ℕ → declared.Presence → Type 0
+abbrev pub Told : List ℕ → ℕ → Option FilePlace → ℕ → ℕ → declared.Presence → Type 0
 Told file s bitmap points n Presence.All = points ≡ n
 Told file s bitmap points n (Presence.Own q) = (q ≡ at s) × Fitting file q.0 points n
-Told file s bitmap points n (Presence.Earlier q) = (bitmap ≡ Bitmap.At q) × Fitting file q.0 points n
+Told file s bitmap points n (Presence.Earlier q) = (bitmap ≡ Some q) × Fitting file q.0 points n
 
 -- Where a test is passed, it holds, and the answer stands behind it.
-passed : (test : Bool) {answer : Marked} {p : declared.Presence} → cond test answer Marked.NotTaken ≡ Marked.As p → (test ≡ true) × (answer ≡ Marked.As p)
+passed : (test : Bool) {answer : Option Presence} {p : declared.Presence} → cond test answer None ≡ Some p → (test ≡ true) × (answer ≡ Some p)
 passed true e = (refl, e)
 passed false e = apart cc
 
 module _ (file : List ℕ) (s points n : ℕ) {p : declared.Presence} where
-  own_told : (bitmap : Bitmap) → own_at file s points n ≡ Marked.As p → Told file s bitmap points n p
+  own_told : (bitmap : Option FilePlace) → own_at file s points n ≡ Some p → Told file s bitmap points n p
   own_told bitmap e =
       let own = passed (is_bitmap file s points n) e in
       let same : Presence.Own (at s) ≡ p = cc own.1 in
       subst (Told file s bitmap points n) same (refl, is_bitmap_tells file s points n own.0)
 
-  earlier_told : (bitmap : Bitmap) → earlier_at file bitmap points n ≡ Marked.As p → Told file s bitmap points n p
-  earlier_told Bitmap.Absent e = apart cc
-  earlier_told (Bitmap.At q) e =
+  earlier_told : (bitmap : Option FilePlace) → earlier_at file bitmap points n ≡ Some p → Told file s bitmap points n p
+  earlier_told None e = apart cc
+  earlier_told (Some q) e =
       let earlier = passed (is_bitmap file q.0 points n) e in
       let same : Presence.Earlier q ≡ p = cc earlier.1 in
-      subst (Told file s (Bitmap.At q) points n) same (refl, is_bitmap_tells file q.0 points n earlier.0)
+      subst (Told file s (Some q) points n) same (refl, is_bitmap_tells file q.0 points n earlier.0)
 
-  all_told : (bitmap : Bitmap) → all_of points n ≡ Marked.As p → Told file s bitmap points n p
+  all_told : (bitmap : Option FilePlace) → all_of points n ≡ Some p → Told file s bitmap points n p
   all_told bitmap e =
       let all = passed (eqb points n) e in
       let same : Presence.All ≡ p = cc all.1 in
@@ -90,14 +80,9 @@ unfolding present_before ones_before
 present_earlier file q points zero = refl
 present_earlier file q points (suc n) = rw (present_earlier file q points n)
 
-module _ (file : List ℕ) (s : ℕ) (bitmap : Bitmap) (points n : ℕ) where
-  -- A section of 6 octets whose indicator is not 0 is one without a bitmap.
-  pub without_own : length_at file s ≡ 6 → (octet file s 6 ≡ 0 → ⊥) → {answer : Marked} → answer ≡ without_bitmap file s bitmap points n → answer ≡ presence_at file s bitmap points n
-  unfolding presence_at
-  without_own six other e = rw (six, ne_eqb _ _ other) e
-
+module _ (file : List ℕ) (s : ℕ) (bitmap : Option FilePlace) (points n : ℕ) where
   -- Where section 6 is taken, all that it tells holds.
-  pub marked : {p : declared.Presence} → presence_at file s bitmap points n ≡ Marked.As p → Told file s bitmap points n p
+  pub marked : {p : declared.Presence} → presence_at file s bitmap points n ≡ Some p → Told file s bitmap points n p
   unfolding presence_at
   marked {p} e =
       split (ltb (length_at file s) 6) (λ i. apart (cc (rw i at e)))
@@ -119,16 +104,16 @@ module _ (file : List ℕ) (s : ℕ) (bitmap : Bitmap) (points n : ℕ) where
   told_most (Presence.Earlier q) told = omega (arith, told.1.ones, ones_most (bitmap_in file q.0 points) points)
 
   -- N equals the points present.
-  pub marked_present : {p : declared.Presence} → presence_at file s bitmap points n ≡ Marked.As p → n ≡ present_before file p points points
+  pub marked_present : {p : declared.Presence} → presence_at file s bitmap points n ≡ Some p → n ≡ present_before file p points points
   marked_present {p} e = told_present p (marked e)
 
   -- N is at most the number of points.
-  pub marked_most : {p : declared.Presence} → presence_at file s bitmap points n ≡ Marked.As p → n ≤ points
+  pub marked_most : {p : declared.Presence} → presence_at file s bitmap points n ≡ Some p → n ≤ points
   marked_most {p} e = told_most p (marked e)
 
   -- The bitmap is the section's own, or the one in force, and has a bit for each point.
-  pub marked_own : {q : FilePlace} → presence_at file s bitmap points n ≡ Marked.As (Presence.Own q) → (q ≡ at s) × (length_at file q.0 ≡ bitmap_length points)
+  pub marked_own : {q : FilePlace} → presence_at file s bitmap points n ≡ Some (Presence.Own q) → (q ≡ at s) × (length_at file q.0 ≡ bitmap_length points)
   marked_own e = let told = marked e in (told.0, told.1.length)
 
-  pub marked_earlier : {q : FilePlace} → presence_at file s bitmap points n ≡ Marked.As (Presence.Earlier q) → (bitmap ≡ Bitmap.At q) × (length_at file q.0 ≡ bitmap_length points)
+  pub marked_earlier : {q : FilePlace} → presence_at file s bitmap points n ≡ Some (Presence.Earlier q) → (bitmap ≡ Some q) × (length_at file q.0 ≡ bitmap_length points)
   marked_earlier e = let told = marked e in (told.0, told.1.length)

@@ -1,13 +1,12 @@
 -- RULES, "Section 6": which points of a field are present.
-use Rattle.std.specs.Prelude.{ℕ, zero, suc, ◌+◌, ◌≡◌, Bool, ◌&&◌, cond, List, [], eqb, ltb, take, drop}
+use Rattle.std.specs.Prelude.{ℕ, zero, suc, ◌+◌, ◌≡◌, Bool, ◌&&◌, cond, List, [], eqb, ltb, take, drop, Option, Some, None}
 use Rattle.octets.specs.Places.{at, place_of}
 use Rattle.section.specs.Sections.{Lies, octet, length_at}
 use Rattle.bits.specs.Bits.{bit_at, octets_of}
 use Rattle.bits_ones.specs.Ones.{ones_before}
-use Rattle.tiling_sections.specs.declared.Bitmap.{Bitmap}
 use Rattle.section_6.specs.declared.Presence as declared
-use Rattle.section_6.specs.declared.Presence.TheVariants as Presence
-use Rattle.section_6.specs.declared.Marked.{Marked}
+use Rattle.section_6.specs.declared.Presence.{Presence}
+use Rattle.octets.specs.declared.FilePlace.{FilePlace}
 
 -- A bitmap has a bit for each point, from octet 7 of its section on. So the section's length is 6 octets and those of the bits.
 abbrev pub bitmap_length : ℕ → ℕ
@@ -22,32 +21,32 @@ abbrev pub is_bitmap : List ℕ → ℕ → ℕ → ℕ → Bool
 is_bitmap file p points n = eqb (length_at file p) (bitmap_length points) && eqb (ones_before (bitmap_in file p points) points) n
 
 -- Indicator 0: the section has a bitmap of its own.
-abbrev pub own_at : List ℕ → ℕ → ℕ → ℕ → Marked
-own_at file s points n = cond (is_bitmap file s points n) (Marked.As (Presence.Own (at s))) Marked.NotTaken
+abbrev pub own_at : List ℕ → ℕ → ℕ → ℕ → Option Presence
+own_at file s points n = cond (is_bitmap file s points n) (Some (Presence.Own (at s))) None
 
 -- Indicator 254: the latest bitmap of the grid is used again.
-abbrev pub earlier_at : List ℕ → Bitmap → ℕ → ℕ → Marked
-earlier_at file Bitmap.Absent points n = Marked.NotTaken
-earlier_at file (Bitmap.At p) points n = cond (is_bitmap file p.0 points n) (Marked.As (Presence.Earlier p)) Marked.NotTaken
+abbrev pub earlier_at : List ℕ → Option FilePlace → ℕ → ℕ → Option Presence
+earlier_at file None points n = None
+earlier_at file (Some p) points n = cond (is_bitmap file p.0 points n) (Some (Presence.Earlier p)) None
 
 -- Indicator 255: all points are present.
-abbrev pub all_of : ℕ → ℕ → Marked
-all_of points n = cond (eqb points n) (Marked.As Presence.All) Marked.NotTaken
+abbrev pub all_of : ℕ → ℕ → Option Presence
+all_of points n = cond (eqb points n) (Some Presence.All) None
 
 -- The indicator is octet 6. A section of 5 octets has none.
-abbrev pub without_bitmap : List ℕ → ℕ → Bitmap → ℕ → ℕ → Marked
+abbrev pub without_bitmap : List ℕ → ℕ → Option FilePlace → ℕ → ℕ → Option Presence
 without_bitmap file s bitmap points n =
     cond (eqb (octet file s 6) 254) (earlier_at file bitmap points n)
     (cond (eqb (octet file s 6) 255) (all_of points n)
-    Marked.NotTaken)
+    None)
 
 -- What the section 6 at s says of so many points, of which n are to be present; or that it is not taken.
-unfoldable pub presence_at : List ℕ → ℕ → Bitmap → ℕ → ℕ → Marked
+unfoldable pub presence_at : List ℕ → ℕ → Option FilePlace → ℕ → ℕ → Option Presence
 presence_at file s bitmap points n =
-    cond (ltb (length_at file s) 6) Marked.NotTaken
+    cond (ltb (length_at file s) 6) None
     (cond (eqb (octet file s 6) 0) (own_at file s points n)
     (cond (eqb (length_at file s) 6) (without_bitmap file s bitmap points n)
-    Marked.NotTaken))
+    None))
 
 -- The bitmap indicator of each case.
 abbrev pub indicator_of : declared.Presence → ℕ

@@ -1,29 +1,26 @@
 -- The laws of section 7, each once: sound groups take at most 31 bits a value, and a section that is taken ends with the last of its values.
-use mathlib.Core.Path.{◌≡◌, refl, ap, ◌∙◌}
+use mathlib.Core.Path.{◌≡◌, refl, ap}
 use mathlib.Core.Bool.{Bool, true, false, ◌&&◌, cond}
 use mathlib.Core.List.{List}
 use Prim.Native.Nat.{ℕ, zero, suc, ◌+◌, ◌-◌, ◌*◌, ◌≤◌, ◌<◌}
 use native.Mathlib.Nat.{mul-le-mul_right}
 use native.Mathlib.Numerals.{add-one}
 use native.Mathlib.Omega.{arith}
-use borrow.Author.Tests.{leb-true, le-leb, eqb-true, eqb-false, eq-eqb, ne_eqb}
+use borrow.Author.Tests.{le-leb, leb-true, eqb-true, eqb-false}
 use lib.Dec.{eqb}
-use lib.ListN.{length}
 use Rattle.octets.proofs.Cases.{apart, split, both}
-use Rattle.section.specs.Sections.{Lies, length_at, octets_in}
+use Rattle.section.specs.Sections.{length_at, octets_in}
 use Rattle.bits.specs.Bits.{octets_of}
 use Rattle.section_5_groups.specs.declared.Grouping.{Grouping}
 use Rattle.section_5.specs.declared.Representation.{Representation}
-use Rattle.section_5.specs.declared.Represented.TheVariants as Represented
 use Rattle.section_5.specs.declared.Template.{Template}
 use Rattle.section_5.specs.Representation.{representation_at}
 use Rattle.section_5.proofs.Laws.{represented_bits, represented_groups}
 use Rattle.section_7_layout.specs.declared.Layout.{Layout}
 use Rattle.section_7_layout.specs.Runs.{layout_of, packed_from, width_of, length_of}
-use Rattle.section_7.specs.declared.Plan.{Plan}
 use Rattle.section_7.specs.declared.Data.{Data}
-use Rattle.section_7.specs.declared.Packed.TheVariants as Packed
-use Rattle.section_7.specs.Packing.{simple_length, values_before, bits_before, are_sound, plan_of, ends_with, is_grouped, groups_in, grouped_at, data_at, LimitedBy}
+use Rattle.section_7.specs.Packing.{simple_length, values_before, bits_before, are_sound, plan_of, ends_with, is_grouped, groups_in, data_at, LimitedBy}
+use Rattle.std.specs.Prelude.{Some, None}
 
 module _ (run : List ℕ) (at : Layout) (g : Grouping) where
   -- Groups are sound if those before the last are, and it has at most 31 bits and at least one value.
@@ -70,11 +67,8 @@ module _ (run : List ℕ) (at : Layout) (g : Grouping) where
       let group : width_of run at g i * length_of run at g i ≤ 31 * length_of run at g i = mul-le-mul_right (length_of run at g i) parts.1 in
       omega (arith, bits_of_values i parts.0)
 
-  -- The plan of sound groups with n values, and of all others.
-  pub plan_good : {n : ℕ} → are_sound run at g g.groups ≡ true → values_before run at g g.groups ≡ n → plan_of run at g n ≡ Plan.Bits (bits_before run at g g.groups)
-  plan_good e v = simp (e, eq-eqb _ _ v)
-
-  pub plan_bad : {n : ℕ} → (are_sound run at g g.groups ≡ true → values_before run at g g.groups ≡ n → ⊥) → plan_of run at g n ≡ Plan.Bad
+  -- Groups that are not sound, or that have not n values, have no plan.
+  pub plan_bad : {n : ℕ} → (are_sound run at g g.groups ≡ true → values_before run at g g.groups ≡ n → ⊥) → plan_of run at g n ≡ None
   plan_bad {n} out =
       split (are_sound run at g g.groups && eqb (values_before run at g g.groups) n)
       (λ e. let parts = both _ _ e in absurd (out parts.0 (eqb-true _ _ parts.1)))
@@ -88,43 +82,13 @@ module _ (run : List ℕ) (at : Layout) (g : Grouping) where
       (λ good. let parts = both _ _ good in (parts.0, eqb-true _ _ parts.1, eqb-true _ _ (rw good at e)))
       (λ bad. let ends : false ≡ true = rw bad at e in apart cc)
 
--- A section that ends before its packed values does not end with its groups.
-ends_before : {length : ℕ} (at : Layout) (plan : Plan) → length < at.packed.0 - 1 → ends_with length at plan ≡ false
-ends_before {length} at (Plan.Bits bits) h = ne_eqb length (at.packed.0 - 1 + octets_of bits) (λ e. omega arith)
-ends_before at Plan.Bad h = refl
-
--- One that does not end there holds all that stands before the groups.
-pub reaches : (file : List ℕ) (s bits : ℕ) (g : Grouping) → Lies file s → packed_from bits g - 1 ≤ length_at file s → s + 5 + 3 * g.extra ≤ length file
-reaches file s bits g lies h = omega (arith, lies.room)
-
--- What a section with groups holds follows from their plan and from where the section ends.
-module _ (file : List ℕ) (s n bits : ℕ) (g : Grouping) where
-  not_taken : is_grouped file s n bits g ≡ false → grouped_at file s n bits g ≡ Packed.NotTaken
-  not_taken e = rw e
-
-  pub too_short : length_at file s < packed_from bits g - 1 → grouped_at file s n bits g ≡ Packed.NotTaken
-  too_short h = not_taken (ends_before (layout_of bits g) (plan_of (octets_in file s) (layout_of bits g) g n) h)
-
-  pub no_plan : plan_of (octets_in file s) (layout_of bits g) g n ≡ Plan.Bad → grouped_at file s n bits g ≡ Packed.NotTaken
-  no_plan plan = not_taken (ap (ends_with (length_at file s) (layout_of bits g)) plan)
-
-  module _ {packed : ℕ} (plan : plan_of (octets_in file s) (layout_of bits g) g n ≡ Plan.Bits packed) where
-    by_plan : is_grouped file s n bits g ≡ eqb (length_at file s) (packed_from bits g - 1 + octets_of packed)
-    by_plan = ap (ends_with (length_at file s) (layout_of bits g)) plan
-
-    pub ends_elsewhere : (length_at file s ≡ packed_from bits g - 1 + octets_of packed → ⊥) → grouped_at file s n bits g ≡ Packed.NotTaken
-    ends_elsewhere other = not_taken (by_plan ∙ ne_eqb _ _ other)
-
-    pub ends_there : length_at file s ≡ packed_from bits g - 1 + octets_of packed → grouped_at file s n bits g ≡ Packed.As (Data.Complex (groups_in file s bits g))
-    ends_there same = rw (by_plan ∙ eq-eqb _ _ same)
-
 -- Where a test decides whether data are taken, it holds where some are, and they are those.
-taken : (test : Bool) {held d : Data} → cond test (Packed.As held) Packed.NotTaken ≡ Packed.As d → (d ≡ held) × (test ≡ true)
+taken : (test : Bool) {held d : Data} → cond test (Some held) None ≡ Some d → (d ≡ held) × (test ≡ true)
 taken true e = (cc, refl)
 taken false e = apart cc
 
 -- What a section holds, where it is taken: packed simply, it ends with its values.
-pub packed_simple : (file : List ℕ) (s : ℕ) (r : Representation) {d : Data} → data_at file s r ≡ Packed.As d → r.template ≡ Template.Simple →
+pub packed_simple : (file : List ℕ) (s : ℕ) (r : Representation) {d : Data} → data_at file s r ≡ Some d → r.template ≡ Template.Simple →
     (d ≡ Data.Simple) × (length_at file s ≡ simple_length r.n r.bits)
 unfolding data_at
 packed_simple file s r {d} e t =
@@ -132,12 +96,12 @@ packed_simple file s r {d} e t =
     (said.0, eqb-true _ _ said.1)
 
 -- Packed in groups, it holds these, and they are sound, have as many values as they must, and end with the section.
-pub packed_complex : (file : List ℕ) (s : ℕ) (r : Representation) (g : Grouping) {d : Data} → data_at file s r ≡ Packed.As d → r.template ≡ Template.Complex g →
+pub packed_complex : (file : List ℕ) (s : ℕ) (r : Representation) (g : Grouping) {d : Data} → data_at file s r ≡ Some d → r.template ≡ Template.Complex g →
     (d ≡ Data.Complex (groups_in file s r.bits g)) × (is_grouped file s r.n r.bits g ≡ true)
 unfolding data_at
 packed_complex file s r g e t = taken (is_grouped file s r.n r.bits g) (rw t at e)
 
-pub packed_plan : (file : List ℕ) (s : ℕ) (r : Representation) (g : Grouping) {d : Data} → data_at file s r ≡ Packed.As d → r.template ≡ Template.Complex g →
+pub packed_plan : (file : List ℕ) (s : ℕ) (r : Representation) (g : Grouping) {d : Data} → data_at file s r ≡ Some d → r.template ≡ Template.Complex g →
     let run = octets_in file s in
     let at = layout_of r.bits g in
     (are_sound run at g g.groups ≡ true)
@@ -146,7 +110,7 @@ pub packed_plan : (file : List ℕ) (s : ℕ) (r : Representation) (g : Grouping
 packed_plan file s r g e t = ends_by_plan (octets_in file s) (layout_of r.bits g) g (packed_complex file s r g e t).1
 
 -- A section 5 that is taken leaves section 7 within the limits that its plan needs.
-pub limited : (file : List ℕ) (s : ℕ) (r : Representation) → representation_at file s ≡ Represented.By r → LimitedBy r.bits r.template
+pub limited : (file : List ℕ) (s : ℕ) (r : Representation) → representation_at file s ≡ Some r → LimitedBy r.bits r.template
 limited file s r e = by r.template refl
   where
     by : (t : Template) → r.template ≡ t → LimitedBy r.bits t

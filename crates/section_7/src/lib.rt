@@ -1,12 +1,11 @@
 // Section 7: what it holds. These are the packed numbers of a field and nothing else, and their groups add up (RULES, "Section 7").
 #![tactic(auto)]
 
-ghost use Rattle.std.specs.Prelude.{◌≡◌};
-ghost use Rattle.section.specs.Sections.{Lies};
+ghost use Rattle.std.specs.Prelude.{◌≡◌, ◌&&◌, leb};
 ghost use Rattle.section_7_layout.specs.Runs.{StartsNear, Limited};
 ghost use Rattle.section_7.specs.Packing.{plan_of, grouped_at, data_at, LimitedBy};
 
-use octets::FilePlace;
+use section::FileSection;
 use section_5::{Representation, Template};
 use section_5_groups::Grouping;
 use section_7_layout::{Differencing, Layout};
@@ -28,69 +27,56 @@ pub enum Data {
     Complex(Groups),
 }
 
-#[derive(Clone, Copy)]
-pub enum Packed {
-    As(Data),
-    NotTaken,
+// Can a group have such a width and such a length?
+fn is_sound(width: u32, length: u64) -> bool
+    ensures { result ≡ (leb width 31 && leb 1 length) }
+{
+    width <= 31 && 1 <= length
 }
 
-// How many bits the packed values of all groups take, where the groups are sound and have as many values as they must.
-#[derive(Clone, Copy)]
-pub enum Plan {
-    Bits(u64),
-    Bad,
-}
-
-// The plan of the groups, for n values.
-fn plan_of(run: &[u8], layout: Layout, grouping: Grouping, n: u32) -> Plan
+// How many bits the packed values of all groups take, where the groups are sound and have n values.
+fn plan_of(run: &[u8], layout: Layout, grouping: Grouping, n: u32) -> Option<u64>
     requires { (StartsNear layout.widths) × (StartsNear layout.lengths) × (Limited 0 grouping) }
     ensures { result ≡ plan_of run.now layout grouping n }
 {
-    let mut i: u32 = 0;
     let mut values: u64 = 0;
     let mut bits: u64 = 0;
-    while i < grouping.groups {
+    for i in 0..grouping.groups {
         let width = section_7_layout::width_of(run, layout, grouping, i);
         let length = section_7_layout::length_of(run, layout, grouping, i);
-        if 31 < width {
-            return Plan::Bad;
-        }
-        if length < 1 {
-            return Plan::Bad;
+        if !is_sound(width, length) {
+            return None;
         }
         if (n as u64) < values + length {
-            return Plan::Bad;
+            return None;
         }
         values += length;
         bits += width as u64 * length;
-        i += 1;
     }
     if values != n as u64 {
-        return Plan::Bad;
+        return None;
     }
-    Plan::Bits(bits)
+    Some(bits)
 }
 
 // The groups of the section, where it holds n values in them, and nothing else.
-fn grouped_at(file: &[u8], at: FilePlace, n: u32, bits: u32, grouping: Grouping) -> Packed
-    requires { (Lies file.now at.0) × (Limited bits grouping) }
-    ensures { result ≡ grouped_at file.now at.0 n bits grouping }
+fn grouped_at(section: FileSection, n: u32, bits: u32, grouping: Grouping) -> Option<Data>
+    requires { Limited bits grouping }
+    ensures { result ≡ grouped_at section.entry.file.now section.entry.at.0 n bits grouping }
 {
-    let length = section::length_of(file, at);
+    let length = section.length();
     let layout = section_7_layout::layout_of(bits, grouping);
     // A section that ends before its packed values is too short, whatever the groups are: they are not read.
     let head = layout.packed.0 - 1;
     if length < head {
-        return Packed::NotTaken;
+        return None;
     }
-    let Plan::Bits(packed) = plan_of(section::octets_in(file, at), layout, grouping, n) else {
-        return Packed::NotTaken;
-    };
+    let packed = plan_of(section.octets(), layout, grouping, n)?;
     if length as u64 != head as u64 + bits::octets_of(packed) {
-        return Packed::NotTaken;
+        return None;
     }
-    let differencing = section_7_layout::differencing_at(file, at, grouping.extra);
-    Packed::As(Data::Complex(Groups {
+    let differencing = section_7_layout::differencing_at(section.file, section.at, grouping.extra);
+    Some(Data::Complex(Groups {
         layout,
         grouping,
         bits,
@@ -98,27 +84,23 @@ fn grouped_at(file: &[u8], at: FilePlace, n: u32, bits: u32, grouping: Grouping)
     }))
 }
 
-// What the section 7 at `at` holds, or that it is not taken: it must hold the values that the representation tells, and nothing else.
-pub fn data_at(file: &[u8], at: FilePlace, representation: Representation) -> Packed
-    requires { (Lies file.now at.0) × (LimitedBy representation.bits representation.template) }
-    ensures { result ≡ data_at file.now at.0 representation }
+// What section 7 holds, where it is taken: it must hold the values that the representation tells, and nothing else.
+#[tactic(auto, unfolding(crate::specs::Packing::data_at))]
+pub fn data_at(section: FileSection, representation: Representation) -> Option<Data>
+    requires { LimitedBy representation.bits representation.template }
+    ensures { result ≡ data_at section.entry.file.now section.entry.at.0 representation }
 {
     let template = representation.template;
     match template {
         Template::Simple => {
-            if section::length_of(file, at) as u64
-                != 5 + bits::octets_of_run(representation.n, representation.bits)
-            {
-                return Packed::NotTaken;
+            let packed = bits::octets_of_run(representation.n, representation.bits);
+            if section.length() as u64 != 5 + packed {
+                return None;
             }
-            Packed::As(Data::Simple)
+            Some(Data::Simple)
         }
-        Template::Complex(grouping) => grouped_at(
-            file,
-            at,
-            representation.n,
-            representation.bits,
-            grouping,
-        ),
+        Template::Complex(grouping) => {
+            grouped_at(section, representation.n, representation.bits, grouping)
+        }
     }
 }

@@ -1,7 +1,7 @@
 -- The laws of the runs of a section 7, each once: what they hold fits the machine's numbers, and they start within bounds.
 use mathlib.Core.List.{List}
-use Prim.Native.Nat.{ℕ, ◌-◌, ◌*◌, ◌^◌, ◌≤◌, ◌<◌}
-use native.Mathlib.Nat.{lt_of_le_of_lt, lt_of_lt_of_le, mul-le-mul_left, mul-le-mul_right, pow-le-pow_right}
+use Prim.Native.Nat.{ℕ, ◌*◌, ◌^◌, ◌≤◌, ◌<◌}
+use native.Mathlib.Nat.{lt_of_le_of_lt, lt_of_lt_of_le, mul-le-mul_left, pow-le-pow_right}
 use native.Mathlib.Omega.{arith}
 use lib.Dec.{lit<}
 use lib.Pow.{pow_mono}
@@ -22,10 +22,6 @@ run_fits {count} h k = lt_of_le_of_lt (mul-le-mul_left count k) (omega arith)
 -- A number of at most 31 bits is below 2^31.
 pub stored_fits : (run : List ℕ) (place : ℕ) {b : ℕ} → b ≤ 31 → bits_at run place b < 2 ^ 31
 stored_fits run place {b} h = lt_of_lt_of_le (bits_lt run place b) (pow_mono h)
-
--- A number of 32 bits times one of 31 leaves room in 63 bits for another of 32.
-pub increments_fit : {increment scaled : ℕ} → increment ≤ 2 ^ 32 - 1 → scaled < 2 ^ 31 → increment * scaled < 2 ^ 63 - 2 ^ 32
-increments_fit {increment} {scaled} h k = lt_of_le_of_lt (mul-le-mul_right scaled h) (omega arith)
 
 -- The runs of a section follow one another, behind the section's head, and their starts are small numbers.
 pub record Bounded (at : Layout) : Type 0 where

@@ -64,13 +64,13 @@ pub fn layout_of(bits: u32, grouping: Grouping) -> Layout
 }
 
 // The number i of a run of numbers of b bits that starts on octet `first`.
+#[tactic(auto, using(crate::proofs::Laws::stored_fits))]
 pub fn stored(run: &[u8], first: OctetNumber, b: u32, i: u32) -> u32
     requires { (StartsNear first) × (b ≤ 31) }
     ensures { (result ≡ bits_at run.now (first_bit first.0 + i * b) b) × (result < 2 ^ 31) }
 {
     let start = octets::first_bit(first);
-    let taken = bits_reader::take(run, BitPlace(start.0 + i as usize * b as usize), b);
-    taken.number
+    bits::read_bits(run, BitPlace(start.0 + i as usize * b as usize), b)
 }
 
 // The width of group i.
