@@ -7,16 +7,15 @@ use mathlib.Core.Bool.{true}
 use native.Mathlib.Nat.{zero-add}
 use native.Mathlib.Omega.{arith}
 use lib.ListN.{length}
+use Rattle.std.specs.Prelude.{Option, Some, None, Ok}
+use Rattle.octets.specs.declared.FilePlace.{FilePlace}
 use Rattle.octets.specs.Places.{at}
 use Rattle.laws_machine.specs.Machine.{stop, Trace, halts, steps}
-use Rattle.tiling_sections.specs.declared.Bitmap.{Bitmap}
 use Rattle.tiling_sections.specs.declared.Starts.{Starts}
 use Rattle.tiling_sections.specs.declared.Located.{Located}
-use Rattle.tiling_sections.specs.declared.Step.TheVariants as Step
-use Rattle.tiling_sections.specs.Walk.{follows, section_at, starts_after, bitmap_after, nowhere, Walking, InMessage, passed, took, stepped, section_step, sections}
+use Rattle.tiling_sections.specs.Walk.{follows, section_at, starts_after, bitmap_after, nowhere, Walking, InMessage, passed, took, stepped, section_step, sections, standing}
 use Rattle.tiling_sections.specs.Stands as Stands
 use Rattle.tiling_sections.proofs.Laws.{stands_only, trace_walk}
-use Rattle.tiling.specs.declared.Header.TheVariants as Header
 use Rattle.tiling.specs.Tiling.{stated_at, message, SoFar, InFile, tiled, met, file_step, tiling_of}
 use Rattle.tiling.specs.Heads.{Heads, Holds}
 use Rattle.tiling.proofs.Laws as reading
@@ -32,7 +31,7 @@ module _ {file : List ℕ} where
   pub field_grows : {a b : ℕ} → Field file a b → a + 20 ≤ b
   field_grows f = omega (arith, section_grows f.four, section_grows f.five, section_grows f.six, section_grows f.seven)
 
-  pub fields_grow : {start one three : ℕ} {bitmap : Bitmap} {a b : ℕ} {fs : List Located} → Fields file start one three bitmap a b fs → a + 20 ≤ b
+  pub fields_grow : {start one three : ℕ} {bitmap : Option FilePlace} {a b : ℕ} {fs : List Located} → Fields file start one three bitmap a b fs → a + 20 ≤ b
   fields_grow (Grammar.Fields.last f) = field_grows f
   fields_grow (Grammar.Fields.more f r) = omega (arith, field_grows f, fields_grow r)
 
@@ -51,7 +50,7 @@ abbrev pub walking_at : ℕ → ℕ → Located → List Located → Walking
 walking_at p after l fields = record { place = p; after = after; starts = l.starts; bitmap = l.bitmap; fields = fields }
 
 -- Sections 0, 1 and 3 and the bitmap in force, beside what is left of the field before.
-abbrev in_force : ℕ → ℕ → ℕ → Bitmap → Starts → Located
+abbrev in_force : ℕ → ℕ → ℕ → Option FilePlace → Starts → Located
 in_force start one three bitmap s =
     record {
       starts = record { zero = at start; one = at one; three = at three; four = s.four; five = s.five; six = s.six; seven = s.seven };
@@ -66,12 +65,12 @@ module _ (file : List ℕ) (e : ℕ) where
   pub section_goes : {w : Walking} {n b : ℕ} {t : InMessage} → Section file n w.place b → b ≤ e → follows w.after n ≡ true → Goes (took file w n b) t → Goes w t
   section_goes {w} {n} {b} s inside allowed = steps (ap (stepped file e w) found)
     where
-      found : section_at file w.place e w.after ≡ Step.Next n (at b)
+      found : section_at file w.place e w.after ≡ Ok (Some (standing n (at b)))
       found =
           stands_only file w.place e w.after (Stands.next (record { least = s.least; room = rw s.ends inside }) (rw s.numbered allowed)) ∙
-          ap₂ (λ (m q : ℕ). Step.Next m (at q)) s.numbered s.ends
+          ap₂ (λ (m q : ℕ). Ok (Some (standing m (at q)))) s.numbered s.ends
 
-  field_goes : (after : ℕ) {a b : ℕ} (f : Field file a b) → b ≤ e → follows after 4 ≡ true → (start one three : ℕ) (bitmap : Bitmap) (s : Starts) (before : List Located) {t : InMessage} →
+  field_goes : (after : ℕ) {a b : ℕ} (f : Field file a b) → b ≤ e → follows after 4 ≡ true → (start one three : ℕ) (bitmap : Option FilePlace) (s : Starts) (before : List Located) {t : InMessage} →
       Goes (walking_at b 7 (located_at start one three bitmap f) (before ++ (located_at start one three bitmap f ∷ []))) t → Goes (walking_at a after (in_force start one three bitmap s) before) t
   unfolding starts_after bitmap_after
   field_goes after {a} {b} f inside allowed start one three bitmap s before on =
@@ -83,13 +82,13 @@ module _ (file : List ℕ) (e : ℕ) where
 
   -- The walk goes on at b behind a field, whatever section 3 and whatever bitmap are then in force.
   abbrev GoesOn : ℕ → ℕ → ℕ → List Located → InMessage → Type 0
-  GoesOn start one b fs t = (three : ℕ) (bitmap : Bitmap) (s : Starts) → Goes (walking_at b 7 (in_force start one three bitmap s) fs) t
+  GoesOn start one b fs t = (three : ℕ) (bitmap : Option FilePlace) (s : Starts) → Goes (walking_at b 7 (in_force start one three bitmap s) fs) t
 
   -- The walk goes from a, behind a section numbered `after`, to b, and meets the fields fs.
-  abbrev Passes : ℕ → ℕ → ℕ → ℕ → ℕ → Bitmap → ℕ → List Located → Type 0
+  abbrev Passes : ℕ → ℕ → ℕ → ℕ → ℕ → Option FilePlace → ℕ → List Located → Type 0
   Passes after a start one three bitmap b fs = (s : Starts) (before : List Located) (t : InMessage) → GoesOn start one b (before ++ fs) t → Goes (walking_at a after (in_force start one three bitmap s) before) t
 
-  fields_go : {start one three : ℕ} (after : ℕ) {a b : ℕ} {bitmap : Bitmap} {fs : List Located} → Fields file start one three bitmap a b fs → b ≤ e → follows after 4 ≡ true → Passes after a start one three bitmap b fs
+  fields_go : {start one three : ℕ} (after : ℕ) {a b : ℕ} {bitmap : Option FilePlace} {fs : List Located} → Fields file start one three bitmap a b fs → b ≤ e → follows after 4 ≡ true → Passes after a start one three bitmap b fs
   fields_go {start} {one} {three} after {bitmap} (Grammar.Fields.last f) inside allowed s before t on =
       field_goes after f inside allowed start one three bitmap s before (on three (bitmap_of bitmap f) (located_at start one three bitmap f).starts)
   fields_go {start} {one} {three} after {b} {bitmap} (Grammar.Fields.more {fs} f r) inside allowed s before t on =
@@ -97,12 +96,12 @@ module _ (file : List ℕ) (e : ℕ) where
       field_goes after f (omega (arith, fields_grow r)) allowed start one three bitmap s before
       (fields_go 7 r inside refl l.starts (before ++ (l ∷ [])) t (subst⁻¹ (λ (gs : List Located). GoesOn start one b gs t) (append_assoc before (l ∷ []) fs) on))
 
-  grid_goes : (after : ℕ) {a b start one : ℕ} {fs : List Located} → GridPart file start one a b fs → b ≤ e → follows after 3 ≡ true → (three : ℕ) (bitmap : Bitmap) → Passes after a start one three bitmap b fs
+  grid_goes : (after : ℕ) {a b start one : ℕ} {fs : List Located} → GridPart file start one a b fs → b ≤ e → follows after 3 ≡ true → (three : ℕ) (bitmap : Option FilePlace) → Passes after a start one three bitmap b fs
   unfolding starts_after bitmap_after
   grid_goes after g inside allowed three bitmap s before t on =
       section_goes g.three (omega (arith, fields_grow g.fields)) allowed (fields_go 3 g.fields inside refl s before t on)
 
-  grids_go : {start one : ℕ} (after : ℕ) {a b : ℕ} {fs : List Located} → GridParts file start one a b fs → b ≤ e → follows after 3 ≡ true → (three : ℕ) (bitmap : Bitmap) → Passes after a start one three bitmap b fs
+  grids_go : {start one : ℕ} (after : ℕ) {a b : ℕ} {fs : List Located} → GridParts file start one a b fs → b ≤ e → follows after 3 ≡ true → (three : ℕ) (bitmap : Option FilePlace) → Passes after a start one three bitmap b fs
   grids_go after (Grammar.GridParts.last g) inside allowed three bitmap s before t on = grid_goes after g inside allowed three bitmap s before t on
   grids_go {start} {one} after {b} (Grammar.GridParts.more {fs} {gs} g r) inside allowed three bitmap s before t on =
       grid_goes after g (omega (arith, grids_grow r)) allowed three bitmap s before t
@@ -115,7 +114,7 @@ module _ (file : List ℕ) (e : ℕ) where
   sections_complete {p} {fs} one grids =
       trace_walk file e
       (section_goes one (omega (arith, grids_grow grids)) refl
-      (grids_go 1 grids (omega arith) refl 0 Bitmap.Absent nowhere.starts [] (passed (e + 4) fs)
+      (grids_go 1 grids (omega arith) refl 0 None nowhere.starts [] (passed (e + 4) fs)
       (λ three bitmap before. halts (ap (stepped file e (walking_at e 7 (in_force p (p + 16) three bitmap before) fs)) (stands_only file e e 7 (Stands.ends (omega arith) refl))))))
 
 module _ {file : List ℕ} where
@@ -124,7 +123,7 @@ module _ {file : List ℕ} where
       let grows : a + 50 ≤ b = message_grows m in
       let last : a + (stated_at file a - 4) ≡ m.p7777 = omega (arith, m.stated, m.closed) in
       let holds : Holds file a = record { opens = record { there = omega (arith, m.inside); mark = m.mark; edition = m.edition }; least = omega (arith, m.stated); there = omega (arith, m.stated, m.inside) } in
-      let heads : Heads file a (Header.Sections (at m.p7777)) = rw last at (Heads.headed holds (rw last m.closing)) in
+      let heads : Heads file a (Ok (at m.p7777)) = rw last at (Heads.headed holds (rw last m.closing)) in
       enters_only file a (reading.walked heads (sections_complete file m.p7777 m.one m.grids)) ∙ ap (λ (x : ℕ). passed x fs) m.closed
 
   -- The reading steps along a message.

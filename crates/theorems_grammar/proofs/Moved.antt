@@ -8,11 +8,12 @@ use native.Mathlib.Omega.{arith}
 use borrow.Author.Tests.{leb-true}
 use lib.Dec.{leb, eqb}
 use lib.ListN.{length}
+use Rattle.std.specs.Prelude.{Option, Some}
+use Rattle.octets.specs.declared.FilePlace.{FilePlace}
 use Rattle.octets.specs.Numbers.{octet_at, number_at}
 use Rattle.octets.proofs.Cases.{split}
 use Rattle.octets.specs.Places.{at}
 use Rattle.section.specs.Sections.{length_at}
-use Rattle.tiling_sections.specs.declared.Bitmap.{Bitmap}
 use Rattle.tiling_sections.specs.declared.Located.{Located}
 use Rattle.tiling.specs.Tiling.{stated_at}
 use Rattle.theorems_grammar.specs.Grammar as Grammar
@@ -55,7 +56,7 @@ module _ (file other : List ℕ) (a b c : ℕ) (copied : Copied file a b other c
         seven = section_moved f.seven (omega arith);
       }
 
-  bitmap_moved_lem : (bitmap : Bitmap) {p q : ℕ} (f : Field file p q) (h : (a ≤ p) × (q ≤ b)) → bitmap_of (bitmap_moved a c bitmap) (field_moved f h) ≡ bitmap_moved a c (bitmap_of bitmap f)
+  bitmap_moved_lem : (bitmap : Option FilePlace) {p q : ℕ} (f : Field file p q) (h : (a ≤ p) × (q ≤ b)) → bitmap_of (bitmap_moved a c bitmap) (field_moved f h) ≡ bitmap_moved a c (bitmap_of bitmap f)
   bitmap_moved_lem bitmap f h =
       let start : a ≤ f.p6 = omega (arith, section_grows f.four, section_grows f.five) in
       let end : f.p7 ≤ b = omega (arith, section_grows f.seven) in
@@ -66,11 +67,11 @@ module _ (file other : List ℕ) (a b c : ℕ) (copied : Copied file a b other c
       rw (size, sixth, i) (by (eqb (octet_at file (f.p6 + 5)) 0)))
       (λ i. rw (size, i))
     where
-      by : (own : Bool) → cond own (Bitmap.At (at (to f.p6))) (bitmap_moved a c bitmap) ≡ bitmap_moved a c (cond own (Bitmap.At (at f.p6)) bitmap)
+      by : (own : Bool) → cond own (Some (at (to f.p6))) (bitmap_moved a c bitmap) ≡ bitmap_moved a c (cond own (Some (at f.p6)) bitmap)
       by true = refl
       by false = refl
 
-  fields_moved : {start one three : ℕ} {bitmap : Bitmap} {p q : ℕ} {fs : List Located} → Fields file start one three bitmap p q fs → (a ≤ p) × (q ≤ b) → Fields other (to start) (to one) (to three) (bitmap_moved a c bitmap) (to p) (to q) (map (located_moved a c) fs)
+  fields_moved : {start one three : ℕ} {bitmap : Option FilePlace} {p q : ℕ} {fs : List Located} → Fields file start one three bitmap p q fs → (a ≤ p) × (q ≤ b) → Fields other (to start) (to one) (to three) (bitmap_moved a c bitmap) (to p) (to q) (map (located_moved a c) fs)
   fields_moved {bitmap} (Grammar.Fields.last f) h = rw (← bitmap_moved_lem bitmap f h) (Grammar.Fields.last (field_moved f h))
   fields_moved {bitmap} {p} (Grammar.Fields.more {b = r} f rest) h =
       let inside : (a ≤ p) × (r ≤ b) = omega (arith, fields_grow rest) in

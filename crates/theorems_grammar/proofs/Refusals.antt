@@ -4,6 +4,7 @@ use mathlib.Core.Path.{◌≡◌, refl, ap, subst, ◌∙◌}
 use mathlib.Core.List.{List, [], ◌++◌}
 use mathlib.Core.Logic.{◌↔◌}
 use lib.ListN.{length}
+use Rattle.std.specs.Prelude.{Ok, Err}
 use Rattle.octets.proofs.Cases.{apart}
 use Rattle.octets.specs.Places.{at}
 use Rattle.refusals.specs.declared.Refusal.{Refusal}
@@ -13,8 +14,6 @@ use Rattle.tiling_sections.specs.Walk.{Walking, InMessage, failed, finished_by, 
 use Rattle.tiling_sections.specs.Stands as Stands
 use Rattle.tiling_sections.proofs.Laws as walk
 use Rattle.tiling_sections.proofs.Laws.{stands_only, Walks, walks, walk_trace, trace_walk}
-use Rattle.tiling.specs.declared.Header.TheVariants as Header
-use Rattle.tiling.specs.declared.Checked.TheVariants as Checked
 use Rattle.tiling.specs.Heads.{Heads}
 use Rattle.tiling.specs.Tiling.{largest, message, met, SoFar, InFile, tiled, refused, file_step, tiling_of, checked, check}
 use Rattle.tiling.proofs.Laws as reading
@@ -35,7 +34,7 @@ module _ {file : List ℕ} where
       section_goes file e section inside allowed (on (finished_by file w m b) (took file w m b).fields))
 
   -- The walk that passes sections of the message at p and then meets a fault.
-  met_fault : {p e : ℕ} {w : Walking} {r : Refusal} → Heads file p (Header.Sections (at e)) → Passed file (p + 16) e w.place w.after → Goes file e w (failed r) → Faulty file p r
+  met_fault : {p e : ℕ} {w : Walking} {r : Refusal} → Heads file p (Ok (at e)) → Passed file (p + 16) e w.place w.after → Goes file e w (failed r) → Faulty file p r
   met_fault {p} {e} {w} heads before (halts h) = by (subst (Walks file e w) h (walks file e w))
     where
       by : {r : Refusal} → Walks file e w (stop (failed r)) → Faulty file p r
@@ -98,9 +97,9 @@ module _ (file : List ℕ) where
   refuses_so r = (λ h. refused_sound (subst (Whole file) h (whole file)), refused_complete)
 
   -- The question check refuses a file by r exactly there.
-  pub check_refuses : (r : Refusal) → (check file ≡ Checked.Refused r) ↔ Refused file r
+  pub check_refuses : (r : Refusal) → (check file ≡ Err r) ↔ Refused file r
   check_refuses r = (by (tiling_of file) refl, λ d. ap checked (refused_complete d))
     where
-      by : (o : InFile) → tiling_of file ≡ o → checked o ≡ Checked.Refused r → Refused file r
+      by : (o : InFile) → tiling_of file ≡ o → checked o ≡ Err r → Refused file r
       by (tiled m fs) is h = apart cc
       by (refused f) is h = let same : f ≡ r = cc in subst (Refused file) same ((refuses_so f).0 is)

@@ -8,9 +8,10 @@ use native.Mathlib.Omega.{arith}
 use borrow.Author.Tests.{eqb-true}
 use lib.Dec.{eqb}
 use lib.ListN.{length}
+use Rattle.std.specs.Prelude.{Option, None}
+use Rattle.octets.specs.declared.FilePlace.{FilePlace}
 use Rattle.octets.proofs.Cases.{split}
 use Rattle.laws_machine.specs.Machine.{go, stop, Trace, halts, steps}
-use Rattle.tiling_sections.specs.declared.Bitmap.{Bitmap}
 use Rattle.tiling_sections.specs.declared.Located.{Located}
 use Rattle.tiling_sections.specs.Walk.{follows, starts_after, bitmap_after, Walking, passed, finished_by, took, entering, sections}
 use Rattle.tiling_sections.specs.Stands as Stands
@@ -60,7 +61,7 @@ module _ (file : List ℕ) (e : ℕ) where
       by (met {n = m} s inside allowed r) = section_then n w (eqb-true m n (sym (only m) ∙ allowed)) s inside r
 
   -- The walk behind a field.
-  abbrev Behind : ℕ → ℕ → ℕ → Bitmap → {a b : ℕ} → Field file a b → List Located → List Located → Type 0
+  abbrev Behind : ℕ → ℕ → ℕ → Option FilePlace → {a b : ℕ} → Field file a b → List Located → List Located → Type 0
   Behind start one three bitmap {b} f before all = Goes file e (walking_at b 7 (located_at start one three bitmap f) (before ++ (located_at start one three bitmap f ∷ []))) (passed (e + 4) all)
 
   -- A field at p, where l is in force, and the walk behind it.
@@ -92,7 +93,7 @@ module _ (file : List ℕ) (e : ℕ) where
     grids : {fs : List Located} → GridParts file start one p e fs → Tail start one p fs
 
   -- The fields of a grid from a on, and what follows them, behind the fields `before`.
-  record FieldsThen (start one three : ℕ) (bitmap : Bitmap) (a : ℕ) (before all : List Located) : Type 0 where
+  record FieldsThen (start one three : ℕ) (bitmap : Option FilePlace) (a : ℕ) (before all : List Located) : Type 0 where
     q : ℕ
     own : List Located
     others : List Located
@@ -108,7 +109,7 @@ module _ (file : List ℕ) (e : ℕ) where
 
   -- Whatever field ends past p, the walk behind it meets the rest of its grid and what follows.
   abbrev FieldsPast : ℕ → Type 0
-  FieldsPast p = (a b : ℕ) (f : Field file a b) → p < b → b ≤ e → (start one three : ℕ) (bitmap : Bitmap) (before all : List Located) → Behind start one three bitmap f before all → FieldsThen start one three bitmap a before all
+  FieldsPast p = (a b : ℕ) (f : Field file a b) → p < b → b ≤ e → (start one three : ℕ) (bitmap : Option FilePlace) (before all : List Located) → Behind start one three bitmap f before all → FieldsThen start one three bitmap a before all
 
   grids_then : (p after : ℕ) (l : Located) (before all : List Located) → FieldsPast p → SectionThen 3 (walking_at p after l before) all → GridsThen l.starts.zero.0 l.starts.one.0 p before all
   unfolding starts_after bitmap_after
@@ -117,16 +118,16 @@ module _ (file : List ℕ) (e : ℕ) where
       let in3 : Located = finished_by file (walking_at p after l before) 3 three.q in
       let f : FieldThen three.q in3 before all = field_then three.q 3 in3 before all (must 4 w4 (λ h. omega arith) (λ m. refl) three.goes) in
       let past : p < f.b = omega (arith, section_grows three.section, field_grows f.field) in
-      joined three.section (fields_past three.q f.b f.field past f.inside l.starts.zero.0 l.starts.one.0 p Bitmap.Absent before all f.goes)
+      joined three.section (fields_past three.q f.b f.field past f.inside l.starts.zero.0 l.starts.one.0 p None before all f.goes)
     where
       with_tail : {start one q : ℕ} {fs gs : List Located} → GridPart file start one p q fs → Tail start one q gs → GridParts file start one p e (fs ++ gs)
       with_tail {start} {one} {fs} g (nothing i) = rw append-nil (Grammar.GridParts.last (subst (λ (x : ℕ). GridPart file start one p x fs) i g))
       with_tail g (grids r) = Grammar.GridParts.more g r
 
-      joined : {start one p4 : ℕ} → Section file 3 p p4 → FieldsThen start one p Bitmap.Absent p4 before all → GridsThen start one p before all
+      joined : {start one p4 : ℕ} → Section file 3 p p4 → FieldsThen start one p None p4 before all → GridsThen start one p before all
       joined {p4} s r = record { others = r.own ++ r.others; grids = with_tail (record { p4 = p4; three = s; fields = r.fields }) r.tail; same = r.same }
 
-  fields_then : {a p : ℕ} (f : Field file a p) → p ≤ e → FieldsPast p → (start one three : ℕ) (bitmap : Bitmap) (before all : List Located) → Behind start one three bitmap f before all → FieldsThen start one three bitmap a before all
+  fields_then : {a p : ℕ} (f : Field file a p) → p ≤ e → FieldsPast p → (start one three : ℕ) (bitmap : Option FilePlace) (before all : List Located) → Behind start one three bitmap f before all → FieldsThen start one three bitmap a before all
   fields_then {a} {p} f inside fields_past start one three bitmap before _ r = by (first r)
     where
       l : Located

@@ -1,13 +1,13 @@
 -- RULES, "Tiling a file": FM 92 GRIB edition 2 as it is taken here. Messages tile a file, and sections tile each message. These relations say what a file
 -- is; they compute nothing.
-use Rattle.std.specs.Prelude.{ℕ, ◌+◌, ◌≤◌, ◌≡◌, List, [], ◌∷◌, ◌++◌, length}
+use Rattle.std.specs.Prelude.{ℕ, ◌+◌, ◌≤◌, ◌≡◌, List, [], ◌∷◌, ◌++◌, length, Option, None}
+use Rattle.octets.specs.declared.FilePlace.{FilePlace}
 use Rattle.octets.specs.Places.{at}
+use Rattle.octets.specs.Numbers.{number_at}
 use Rattle.section.specs.Sections.{length_at, kind_at}
-use Rattle.tiling_sections.specs.declared.Bitmap.{Bitmap}
 use Rattle.tiling_sections.specs.declared.Located.{Located}
 use Rattle.tiling_sections.specs.Walk.{bitmap_behind}
 use Rattle.tiling.specs.Tiling.{largest, grib, sevens, opening_at, edition_at, stated_at}
-use Rattle.octets.specs.Numbers.{number_at}
 
 -- A section numbered n, from place a up to b: its first four octets hold its length, and the fifth its number.
 pub record Section (file : List ℕ) (n a b : ℕ) : Type 0 where
@@ -27,11 +27,11 @@ pub record Field (file : List ℕ) (a b : ℕ) : Type 0 where
 
 module _ {file : List ℕ} {a b : ℕ} where
   -- The bitmap in force behind a field, where another was in force before it.
-  abbrev pub bitmap_of : Bitmap → Field file a b → Bitmap
+  abbrev pub bitmap_of : Option FilePlace → Field file a b → Option FilePlace
   bitmap_of bitmap f = bitmap_behind file bitmap f.p6 f.p7
 
   -- Where a field lies, under the sections 0, 1 and 3 and the bitmap in force.
-  abbrev pub located_at : ℕ → ℕ → ℕ → Bitmap → Field file a b → Located
+  abbrev pub located_at : ℕ → ℕ → ℕ → Option FilePlace → Field file a b → Located
   located_at start one three bitmap f =
       record {
         starts = record { zero = at start; one = at one; three = at three; four = at a; five = at f.p5; six = at f.p6; seven = at f.p7 };
@@ -39,15 +39,15 @@ module _ {file : List ℕ} {a b : ℕ} where
       }
 
 -- One or more fields, from a up to b, and where each lies.
-pub data Fields (file : List ℕ) (start one three : ℕ) : Bitmap → ℕ → ℕ → List Located → Type 0 where
-  last : {bitmap : Bitmap} {a b : ℕ} (f : Field file a b) → Fields file start one three bitmap a b (located_at start one three bitmap f ∷ [])
-  more : {bitmap : Bitmap} {a b c : ℕ} {fs : List Located} (f : Field file a b) → Fields file start one three (bitmap_of bitmap f) b c fs → Fields file start one three bitmap a c (located_at start one three bitmap f ∷ fs)
+pub data Fields (file : List ℕ) (start one three : ℕ) : Option FilePlace → ℕ → ℕ → List Located → Type 0 where
+  last : {bitmap : Option FilePlace} {a b : ℕ} (f : Field file a b) → Fields file start one three bitmap a b (located_at start one three bitmap f ∷ [])
+  more : {bitmap : Option FilePlace} {a b c : ℕ} {fs : List Located} (f : Field file a b) → Fields file start one three (bitmap_of bitmap f) b c fs → Fields file start one three bitmap a c (located_at start one three bitmap f ∷ fs)
 
 -- A grid is section 3 followed by one or more fields. No bitmap is in force at its start.
 pub record GridPart (file : List ℕ) (start one a b : ℕ) (fs : List Located) : Type 0 where
   pub p4 : ℕ
   pub three : Section file 3 a p4
-  pub fields : Fields file start one a Bitmap.Absent p4 b fs
+  pub fields : Fields file start one a None p4 b fs
 
 -- One or more grids.
 pub data GridParts (file : List ℕ) (start one : ℕ) : ℕ → ℕ → List Located → Type 0 where

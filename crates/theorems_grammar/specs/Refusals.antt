@@ -1,15 +1,13 @@
 -- RULES, "Tiling a file" and "Refusals by number": the refusals of check in their order, each with its place and the first condition that
 -- holds. What comes first in the file is refused first.
-use Rattle.std.specs.Prelude.{ℕ, ◌+◌, ◌≤◌, ◌<◌, ◌≡◌, true, List, length}
+use Rattle.std.specs.Prelude.{ℕ, ◌+◌, ◌≤◌, ◌<◌, ◌≡◌, true, List, length, Ok, Err}
 use Rattle.octets.specs.Places.{at}
 use Rattle.refusals.specs.declared.Refusal.{Refusal}
 use Rattle.refusals.specs.declared.Why.{Why}
 use Rattle.refusals.specs.Refusals.{refusal}
 use Rattle.tiling_sections.specs.declared.Located.{Located}
-use Rattle.tiling_sections.specs.declared.Step.TheVariants as Step
 use Rattle.tiling_sections.specs.Walk.{follows}
 use Rattle.tiling_sections.specs.Stands.{Stands}
-use Rattle.tiling.specs.declared.Header.TheVariants as Header
 use Rattle.tiling.specs.Tiling.{largest}
 use Rattle.tiling.specs.Heads.{Heads}
 use Rattle.theorems_grammar.specs.Grammar.{Section, Message}
@@ -27,8 +25,8 @@ pub data Passed (file : List ℕ) (s e : ℕ) : ℕ → ℕ → Type 0 where
 -- The first fault of the message at p: of steps a to e, whose place is p, or of the first section that step f refuses, whose place is where that
 -- stands. At the end of the sections, "7777" stands there.
 pub data Faulty (file : List ℕ) (p : ℕ) : Refusal → Type 0 where
-  heading : {why : Why} → Heads file p (Header.Bad why) → Faulty file p (refusal why p)
-  section : {e q n : ℕ} {why : Why} → Heads file p (Header.Sections (at e)) → Passed file (p + 16) e q n → Stands file q e n (Step.Bad why) → Faulty file p (refusal why q)
+  heading : {why : Why} → Heads file p (Err why) → Faulty file p (refusal why p)
+  section : {e q n : ℕ} {why : Why} → Heads file p (Ok (at e)) → Passed file (p + 16) e q n → Stands file q e n (Err why) → Faulty file p (refusal why q)
 
 -- Refusals 1 and 2 come first, then the first message that is not one.
 pub data Refused (file : List ℕ) : Refusal → Type 0 where

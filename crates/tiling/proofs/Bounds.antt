@@ -1,11 +1,12 @@
 -- What is known of the answers of check and find. No file that is taken has more messages than octets, or more fields than one for every 20; a refusal
 -- names a place within such a file; and where find says that a field lies, its sections lie in the file.
 use Prim.Native.Nat.{ℕ, ◌*◌, ◌≤◌, ◌<◌}
-use mathlib.Core.Path.{◌≡◌, refl, ap, subst}
+use mathlib.Core.Path.{◌≡◌, refl, ap, sym, subst}
 use mathlib.Core.List.{List}
 use native.Mathlib.Nat.{le_of_lt}
 use native.Mathlib.Omega.{arith}
 use lib.ListN.{length, get_or, length-append}
+use Rattle.std.specs.Prelude.{Result, Ok, Err}
 use Rattle.octets.proofs.Cases.{apart}
 use Rattle.refusals.specs.declared.Refusal.{Refusal}
 use Rattle.laws_machine.specs.Machine.{go, stop, Trace, halts, steps}
@@ -13,15 +14,16 @@ use Rattle.tiling_sections.specs.declared.Located.{Located}
 use Rattle.tiling_sections.specs.Walk.{passed, nowhere}
 use Rattle.tiling_sections.specs.Laid.{Laid}
 use Rattle.tiling_sections.proofs.Laid.{Every, none, join, at_each}
-use Rattle.tiling.specs.declared.Checked.{Checked}
-use Rattle.tiling.specs.Tiling.{largest, SoFar, InFile, tiled, refused, file_step, tiling_of, found_in, find, checked, check}
+use Rattle.tiling.specs.declared.Counts.{Counts}
+use Rattle.tiling.specs.declared.Tiled.{Tiled}
+use Rattle.tiling.specs.Tiling.{largest, SoFar, InFile, tiled, refused, file_step, tiling_of, found_in, find, both_counts, checked, check}
 use Rattle.tiling.specs.Lying.{Lying}
 use Rattle.tiling.proofs.Laws.{Bounded, message_bounded, MessageLaid, message_laid, Reads, on, end, reads, Whole, read, whole, check_placed}
 
 -- No number in the answer is above the length of the largest file that is taken.
-abbrev pub Small : Checked → Type 0
-Small (Checked.Counts messages fields) = (messages ≤ largest) × (fields ≤ largest)
-Small (Checked.Refused r) = r.place.0 ≤ largest
+abbrev pub Small : Result Counts Refusal → Type 0
+Small (Ok both) = (both.messages ≤ largest) × (both.fields ≤ largest)
+Small (Err r) = r.place.0 ≤ largest
 
 module _ (file : List ℕ) where
   -- A reading has no more messages behind it than octets, at most one field for every 20, and the sections of each field lie in the file.
@@ -68,11 +70,11 @@ module _ (file : List ℕ) where
       by (refused r) h = (check_placed file (ap checked h)).1
 
   -- A file has at most one field for every 20 octets.
-  pub check_few : {m n : ℕ} → check file ≡ Checked.Counts m n → 20 * n ≤ length file
+  pub check_few : {m n : ℕ} → check file ≡ Ok (both_counts m n) → 20 * n ≤ length file
   check_few {m} {n} = by (tiling_of file) refl
     where
-      by : (o : InFile) → tiling_of file ≡ o → checked o ≡ Checked.Counts m n → 20 * n ≤ length file
-      by (tiled k fields) h e = let same : length fields ≡ n = cc in omega (arith, (tiled_sound h).1.few_fields, same)
+      by : (o : InFile) → tiling_of file ≡ o → checked o ≡ Ok (both_counts m n) → 20 * n ≤ length file
+      by (tiled k fields) h e = let same : both_counts k (length fields) ≡ both_counts m n = cc in omega (arith, (tiled_sound h).1.few_fields, ap (λ (c : Counts). c.fields) same)
       by (refused r) h e = apart cc
 
   -- Where a file is tiled, the sections of its field k lie in it.
@@ -82,8 +84,8 @@ module _ (file : List ℕ) where
   pub refused_placed : {f : Refusal} → tiling_of file ≡ refused f → f.place.0 ≤ largest
   refused_placed h = (check_placed file (ap checked h)).1
 
-  pub find_lying : (k : ℕ) → Lying file k (find file k)
-  find_lying k = by (tiling_of file) refl
+  pub find_lying : (k : ℕ) {r : Result Tiled Refusal} → r ≡ find file k → Lying file k r
+  find_lying k h = subst (Lying file k) (sym h) (by (tiling_of file) refl)
     where
       by : (o : InFile) → tiling_of file ≡ o → Lying file k (found_in k o)
       by (tiled m fields) h = ((tiled_sound h).0, field_laid k h)

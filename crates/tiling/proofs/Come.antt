@@ -9,6 +9,7 @@ use borrow.Author.Tests.{ltb-true, ltb-false}
 use lib.Dec.{ltb}
 use lib.ListN.{length, get_or, length-append, get_or-append}
 use lib.Seq.{get_or-append-add}
+use Rattle.std.specs.Prelude.{Result, Ok, Err}
 use Rattle.octets.specs.declared.FilePlace.{FilePlace}
 use Rattle.octets.proofs.Cases.{apart, split}
 use Rattle.octets.specs.Places.{at}
@@ -17,32 +18,17 @@ use Rattle.refusals.specs.declared.Why.{Why}
 use Rattle.refusals.specs.Refusals.{refusal}
 use Rattle.tiling_sections.specs.declared.Located.{Located}
 use Rattle.tiling_sections.specs.declared.Walked.{Walked}
-use Rattle.tiling_sections.specs.Walk.{InMessage, passed, failed, nowhere, sections, told}
-use Rattle.tiling.specs.declared.Header.TheVariants as Header
-use Rattle.tiling.specs.declared.Found.{Found}
-use Rattle.tiling.specs.declared.Checked.{Checked}
-use Rattle.tiling.specs.Tiling.{header_at, message, InFile, tiled, refused, read_from, tiles, tiling_of, found_in, find, checked, check}
+use Rattle.tiling_sections.specs.Walk.{InMessage, passed, failed, nowhere, sections, walked_of, told}
+use Rattle.tiling.specs.Tiling.{header_at, message, read_from, tiles, found_in, tiled_of}
 use Rattle.tiling.proofs.Laws.{Bounded, message_bad, message_walked, message_bounded, read_on, read_bad, read_end}
 
 -- What is told of a message, by its header.
 module _ (file : List ℕ) (p k : ℕ) where
-  pub told_sections : {e : FilePlace} {w : Walked} → header_at file p ≡ Header.Sections e → w ≡ told k (sections file p e.0) → w ≡ told k (message file p)
+  pub told_sections : {e : FilePlace} {w : Result Walked Refusal} → header_at file p ≡ Ok e → w ≡ told k (sections file p e.0) → w ≡ told k (message file p)
   told_sections {e} h i = i ∙ ap (told k) (sym (message_walked file p e h))
 
-  pub told_bad : {why : Why} → header_at file p ≡ Header.Bad why → told k (message file p) ≡ Walked.Bad (refusal why p)
+  pub told_bad : {why : Why} → header_at file p ≡ Err why → told k (message file p) ≡ Err (refusal why p)
   told_bad {why} h = ap (told k) (message_bad file p why h)
-
--- The answer of check, by what find has found.
-abbrev pub counts_of : Found → Checked
-counts_of (Found.Tiled messages fields hit) = Checked.Counts messages fields
-counts_of (Found.Refused r) = Checked.Refused r
-
-pub check_counts : (file : List ℕ) (k : ℕ) {t : Found} → find file k ≡ t → check file ≡ counts_of t
-check_counts file k h = by (tiling_of file) ∙ ap counts_of h
-  where
-    by : (o : InFile) → checked o ≡ counts_of (found_in k o)
-    by (tiled m fields) = refl
-    by (refused r) = refl
 
 -- What is told of the message at p is so of its fields. It ends past its start and within the file, and has no more fields than octets.
 pub record Taken (file : List ℕ) (p k count q : ℕ) (hit : Located) : Type 0 where
@@ -54,18 +40,17 @@ pub record Taken (file : List ℕ) (p k count q : ℕ) (hit : Located) : Type 0 
   pub counts : length fields ≡ count
   pub found : get_or fields k nowhere ≡ hit
 
-pub message_taken : (file : List ℕ) (p k : ℕ) {count : ℕ} {q : FilePlace} {hit : Located} → p ≤ length file → told k (message file p) ≡ Walked.Fields count q hit → Taken file p k count q.0 hit
-message_taken file p k {count} {q} {hit} inside = by (message file p) refl (message_bounded file p inside)
+pub message_taken : (file : List ℕ) (p k : ℕ) {w : Walked} → p ≤ length file → told k (message file p) ≡ Ok w → Taken file p k w.count w.next.0 w.hit
+message_taken file p k {w} inside = by (message file p) refl (message_bounded file p inside)
   where
-    by : (m : InMessage) → message file p ≡ m → Bounded file p m → told k m ≡ Walked.Fields count q hit → Taken file p k count q.0 hit
-    by (passed e fields) whole bounded h =
-        let same : at e ≡ q = cc in
-        let ends : e ≡ q.0 = ap (λ (x : FilePlace). x.0) same in
-        let counts : length fields ≡ count = cc in
-        record { least = omega arith; inside = omega arith; few = omega arith; fields = fields; whole = rw ends at whole; counts = counts; found = cc }
+    by : (m : InMessage) → message file p ≡ m → Bounded file p m → told k m ≡ Ok w → Taken file p k w.count w.next.0 w.hit
+    by (passed q fields) whole bounded h =
+        let same : walked_of (length fields) (at q) (get_or fields k nowhere) ≡ w = cc in
+        subst (λ (v : Walked). Taken file p k v.count v.next.0 v.hit) same
+        (record { least = omega arith; inside = omega arith; few = omega arith; fields = fields; whole = whole; counts = refl; found = refl })
     by (failed r) whole bounded h = apart cc
 
-told_failed : (k : ℕ) (m : InMessage) {r : Refusal} → told k m ≡ Walked.Bad r → m ≡ failed r
+told_failed : (k : ℕ) (m : InMessage) {r : Refusal} → told k m ≡ Err r → m ≡ failed r
 told_failed k (passed q fields) {r} h = apart cc
 told_failed k (failed f) h = cc
 
@@ -101,8 +86,8 @@ module _ {file : List ℕ} {k p m n : ℕ} {hit : Located} (r : Come file k p m 
         same = r.same ∙ read_on file _ q taken.fields h taken.whole;
       }
 
-  pub come_bad : (j : ℕ) {f : Refusal} → p < length file → told j (message file p) ≡ Walked.Bad f → found_in k (tiles file) ≡ Found.Refused f
+  pub come_bad : (j : ℕ) {f : Refusal} → p < length file → told j (message file p) ≡ Err f → found_in k (tiles file) ≡ Err f
   come_bad j {f} h s = ap (found_in k) (r.same ∙ read_bad file _ f h (told_failed j (message file p) s))
 
-  pub come_end : length file ≤ p → found_in k (tiles file) ≡ Found.Tiled m n hit
-  come_end h = ap (found_in k) (r.same ∙ read_end file _ h) ∙ ap₂ (Found.Tiled m) r.counts r.found
+  pub come_end : length file ≤ p → found_in k (tiles file) ≡ Ok (tiled_of m n hit)
+  come_end h = ap (found_in k) (r.same ∙ read_end file _ h) ∙ ap₂ (λ (n : ℕ) (hit : Located). Ok (tiled_of m n hit)) r.counts r.found

@@ -9,12 +9,12 @@ use native.Mathlib.Nat.{le_of_lt}
 use borrow.Author.Tests.{eq-eqb, ne_eqb, eqb-true, eqb-false, lt-ltb, le-ltb, ltb-true, ltb-false}
 use lib.Dec.{ltb, eqb}
 use lib.ListN.{length}
+use Rattle.std.specs.Prelude.{Result, Ok, Err}
 use Rattle.octets.specs.declared.FilePlace.{FilePlace}
 use Rattle.octets.proofs.Cases.{apart, split}
 use Rattle.octets.specs.Places.{at}
 use Rattle.refusals.specs.declared.Refusal.{Refusal}
-use Rattle.refusals.specs.declared.Why as declaredWhy
-use Rattle.refusals.specs.declared.Why.TheVariants as Why
+use Rattle.refusals.specs.declared.Why.{Why}
 use Rattle.refusals.specs.Refusals.{refusal}
 use Rattle.laws_machine.specs.Machine.{Next, go, stop, Trace, halts, steps}
 use Rattle.laws_machine.proofs.Laws.{run_go, run_stop, run_trace, trace_run}
@@ -23,8 +23,6 @@ use Rattle.tiling_sections.specs.Walk.{InMessage, passed, failed, sections}
 use Rattle.tiling_sections.specs.Laid.{Laid}
 use Rattle.tiling_sections.proofs.Laws.{Within, fields_within}
 use Rattle.tiling_sections.proofs.Laid.{Every, FieldsLaid, sections_laid}
-use Rattle.tiling.specs.declared.Header.{Header}
-use Rattle.tiling.specs.declared.Checked.TheVariants as Checked
 use Rattle.tiling.specs.Tiling.{largest, grib, sevens, opening_at, edition_at, stated_at, closing_at, header_at, entered, message, SoFar, InFile, tiled, refused, met, file_step, read_from, tiling_of, checked, check}
 use Rattle.tiling.specs.Heads.{Opens, Holds, Heads, few, strange, short, long, endless, headed}
 
@@ -38,7 +36,7 @@ module _ (file : List ℕ) (p : ℕ) where
       (λ j. not_so (λ o. eqb-false _ _ j o.edition)))
       (λ i. not_so (λ o. eqb-false _ _ i o.mark))
 
-  at_strange : p + 16 ≤ length file → (Opens file p → ⊥) → header_at file p ≡ Header.Bad Why.NotGrib2
+  at_strange : p + 16 ≤ length file → (Opens file p → ⊥) → header_at file p ≡ Err Why.NotGrib2
   unfolding header_at
   at_strange h strangely =
       rw (le-ltb (length file - p) 16 (omega arith))
@@ -47,15 +45,15 @@ module _ (file : List ℕ) (p : ℕ) where
       split (eqb (edition_at file p) 2) (λ j. absurd (strangely (record { there = h; mark = eqb-true _ _ i; edition = eqb-true _ _ j }))) (λ j. rw (i, j)))
       (λ i. rw i))
 
-  at_opens : Opens file p → header_at file p ≡ cond (ltb (stated_at file p) 20) (Header.Bad Why.BadLength) (cond (ltb (length file - p) (stated_at file p)) (Header.Bad Why.Cut) (cond (not (eqb (closing_at file p) sevens)) (Header.Bad Why.NoEnd) (Header.Sections (at (p + (stated_at file p - 4))))))
+  at_opens : Opens file p → header_at file p ≡ cond (ltb (stated_at file p) 20) (Err Why.BadLength) (cond (ltb (length file - p) (stated_at file p)) (Err Why.Cut) (cond (not (eqb (closing_at file p) sevens)) (Err Why.NoEnd) (Ok (at (p + (stated_at file p - 4))))))
   unfolding header_at
   at_opens o = rw (le-ltb (length file - p) 16 (omega arith), eq-eqb (opening_at file p) grib o.mark, eq-eqb (edition_at file p) 2 o.edition)
 
-  at_holds : Holds file p → header_at file p ≡ cond (not (eqb (closing_at file p) sevens)) (Header.Bad Why.NoEnd) (Header.Sections (at (p + (stated_at file p - 4))))
+  at_holds : Holds file p → header_at file p ≡ cond (not (eqb (closing_at file p) sevens)) (Err Why.NoEnd) (Ok (at (p + (stated_at file p - 4))))
   at_holds h = at_opens h.opens ∙ rw (le-ltb (stated_at file p) 20 h.least, le-ltb (length file - p) (stated_at file p) (omega arith))
 
   -- `Heads` says what `header_at` computes, and nothing else.
-  pub heads_only : {d : Header} → Heads file p d → header_at file p ≡ d
+  pub heads_only : {d : Result FilePlace Why} → Heads file p d → header_at file p ≡ d
   unfolding header_at
   heads_only (few h) = rw (lt-ltb (length file - p) 16 (omega arith))
   heads_only (strange h i) = at_strange h i
@@ -78,37 +76,37 @@ module _ (file : List ℕ) (p : ℕ) where
       split (eqb (closing_at file p) sevens) (λ l. exactly (headed holds (eqb-true _ _ l))) (λ l. exactly (endless holds (eqb-false _ _ l))))))
       (λ o. exactly (strange (ltb-false _ _ i) o)))
     where
-      exactly : {d : Header} → Heads file p d → Heads file p (header_at file p)
+      exactly : {d : Result FilePlace Why} → Heads file p d → Heads file p (header_at file p)
       exactly d = rw (heads_only d) d
 
   -- The sections end behind section 0, with room for "7777".
-  pub header_within : {e : FilePlace} → header_at file p ≡ Header.Sections e → (p + 16 ≤ e.0) × (e.0 + 4 ≤ length file)
+  pub header_within : {e : FilePlace} → header_at file p ≡ Ok e → (p + 16 ≤ e.0) × (e.0 + 4 ≤ length file)
   header_within h = by (rw h at heads)
     where
-      by : {e : FilePlace} → Heads file p (Header.Sections e) → (p + 16 ≤ e.0) × (e.0 + 4 ≤ length file)
+      by : {e : FilePlace} → Heads file p (Ok e) → (p + 16 ≤ e.0) × (e.0 + 4 ≤ length file)
       by (headed holds i) = omega arith
 
   -- The message at p by its header and its walk.
-  pub message_bad : (why : declaredWhy.Why) → header_at file p ≡ Header.Bad why → message file p ≡ failed (refusal why p)
+  pub message_bad : (why : Why) → header_at file p ≡ Err why → message file p ≡ failed (refusal why p)
   unfolding message
   message_bad why h = ap (entered file p) h
 
-  pub message_walked : (e : FilePlace) → header_at file p ≡ Header.Sections e → message file p ≡ sections file p e.0
+  pub message_walked : (e : FilePlace) → header_at file p ≡ Ok e → message file p ≡ sections file p e.0
   unfolding message
   message_walked e h = ap (entered file p) h
 
   -- The same as one view: what the message at p gives, with what its header and its walk give.
   pub data Entered : InMessage → Type 0 where
-    headless : {why : declaredWhy.Why} → Heads file p (Header.Bad why) → Entered (failed (refusal why p))
-    walked : {e : ℕ} {m : InMessage} → Heads file p (Header.Sections (at e)) → sections file p e ≡ m → Entered m
+    headless : {why : Why} → Heads file p (Err why) → Entered (failed (refusal why p))
+    walked : {e : ℕ} {m : InMessage} → Heads file p (Ok (at e)) → sections file p e ≡ m → Entered m
 
   pub enters : Entered (message file p)
   unfolding message
   enters = by (header_at file p) heads
     where
-      by : (d : Header) → Heads file p d → Entered (entered file p d)
-      by (Header.Sections e) d = walked d refl
-      by (Header.Bad why) d = headless d
+      by : (d : Result FilePlace Why) → Heads file p d → Entered (entered file p d)
+      by (Ok e) d = walked d refl
+      by (Err why) d = headless d
 
   pub enters_only : {m : InMessage} → Entered m → message file p ≡ m
   enters_only (headless d) = message_bad _ (heads_only d)
@@ -237,9 +235,9 @@ module _ (file : List ℕ) where
   outcome_placed (empty h) = omega arith
   outcome_placed (read h i t) = omega (arith, tiles_place t)
 
-  pub check_placed : {f : Refusal} → check file ≡ Checked.Refused f → Placed f
+  pub check_placed : {f : Refusal} → check file ≡ Err f → Placed f
   check_placed {f} = by (tiling_of file) whole
     where
-      by : (o : InFile) → Whole o → checked o ≡ Checked.Refused f → Placed f
+      by : (o : InFile) → Whole o → checked o ≡ Err f → Placed f
       by (tiled m fields) w h = apart cc
       by (refused g) w h = let same : g ≡ f = cc in subst Placed same (outcome_placed w)

@@ -1,16 +1,16 @@
 -- RULES, "Tiling a file", and refusals 1 to 7: how messages tile a file, and where its fields are.
-use Rattle.std.specs.Prelude.{ℕ, ◌+◌, ◌-◌, List, [], ◌++◌, cond, not, ltb, eqb, length, get_or}
+use Rattle.std.specs.Prelude.{ℕ, ◌+◌, ◌-◌, List, [], ◌++◌, cond, not, ltb, eqb, length, get_or, Result, Ok, Err}
+use Rattle.octets.specs.declared.FilePlace.{FilePlace}
 use Rattle.octets.specs.Places.{place_of, at}
 use Rattle.octets.specs.Numbers.{number_at}
 use Rattle.refusals.specs.declared.Refusal.{Refusal}
-use Rattle.refusals.specs.declared.Why.TheVariants as Why
+use Rattle.refusals.specs.declared.Why.{Why}
 use Rattle.refusals.specs.Refusals.{refusal}
 use Rattle.laws_machine.specs.Machine.{Next, go, stop, run}
 use Rattle.tiling_sections.specs.declared.Located.{Located}
 use Rattle.tiling_sections.specs.Walk.{InMessage, passed, failed, nowhere, sections}
-use Rattle.tiling.specs.declared.Header.{Header}
-use Rattle.tiling.specs.declared.Checked.{Checked}
-use Rattle.tiling.specs.declared.Found.{Found}
+use Rattle.tiling.specs.declared.Counts.{Counts}
+use Rattle.tiling.specs.declared.Tiled.{Tiled}
 
 -- The largest file that is taken.
 abbrev pub largest : ℕ
@@ -37,20 +37,20 @@ abbrev pub closing_at : List ℕ → ℕ → ℕ
 closing_at file p = number_at file (p + (stated_at file p - 4)) 4
 
 -- Steps a to e at p: where the sections of the message end, or the first fault.
-unfoldable pub header_at : List ℕ → ℕ → Header
+unfoldable pub header_at : List ℕ → ℕ → Result FilePlace Why
 header_at file p =
-    cond (ltb (length file - p) 16) (Header.Bad Why.Cut)
-    (cond (not (eqb (opening_at file p) grib)) (Header.Bad Why.NotGrib2)
-    (cond (not (eqb (edition_at file p) 2)) (Header.Bad Why.NotGrib2)
-    (cond (ltb (stated_at file p) 20) (Header.Bad Why.BadLength)
-    (cond (ltb (length file - p) (stated_at file p)) (Header.Bad Why.Cut)
-    (cond (not (eqb (closing_at file p) sevens)) (Header.Bad Why.NoEnd)
-    (Header.Sections (at (p + (stated_at file p - 4)))))))))
+    cond (ltb (length file - p) 16) (Err Why.Cut)
+    (cond (not (eqb (opening_at file p) grib)) (Err Why.NotGrib2)
+    (cond (not (eqb (edition_at file p) 2)) (Err Why.NotGrib2)
+    (cond (ltb (stated_at file p) 20) (Err Why.BadLength)
+    (cond (ltb (length file - p) (stated_at file p)) (Err Why.Cut)
+    (cond (not (eqb (closing_at file p) sevens)) (Err Why.NoEnd)
+    (Ok (at (p + (stated_at file p - 4)))))))))
 
 -- The message at p: the place behind it and its fields, or the first fault of steps a to f.
-abbrev pub entered : List ℕ → ℕ → Header → InMessage
-entered file p (Header.Sections e) = sections file p e.0
-entered file p (Header.Bad why) = failed (refusal why p)
+abbrev pub entered : List ℕ → ℕ → Result FilePlace Why → InMessage
+entered file p (Ok e) = sections file p e.0
+entered file p (Err why) = failed (refusal why p)
 
 unfoldable pub message : List ℕ → ℕ → InMessage
 message file p = entered file p (header_at file p)
@@ -84,18 +84,26 @@ tiles file = read_from file (record { place = 0; messages = 0; fields = [] })
 abbrev pub tiling_of : List ℕ → InFile
 tiling_of file = cond (ltb largest (length file)) (refused (refusal Why.TooLong 0)) (cond (eqb (length file) 0) (refused (refusal Why.Empty 0)) (tiles file))
 
--- The same as the code tells it, with the place of field k.
-abbrev pub found_in : ℕ → InFile → Found
-found_in k (tiled m fields) = Found.Tiled m (length fields) (get_or fields k nowhere)
-found_in k (refused r) = Found.Refused r
+-- What is told of a file: its messages, its fields, and where the field lies that is looked for.
+abbrev pub tiled_of : ℕ → ℕ → Located → Tiled
+tiled_of m n hit = record { messages = m; fields = n; hit = hit }
 
-abbrev pub find : List ℕ → ℕ → Found
+-- The same as the code tells it, with the place of field k.
+abbrev pub found_in : ℕ → InFile → Result Tiled Refusal
+found_in k (tiled m fields) = Ok (tiled_of m (length fields) (get_or fields k nowhere))
+found_in k (refused r) = Err r
+
+abbrev pub find : List ℕ → ℕ → Result Tiled Refusal
 find file k = found_in k (tiling_of file)
 
--- The question check: the counts of messages and fields.
-abbrev pub checked : InFile → Checked
-checked (tiled m fields) = Checked.Counts m (length fields)
-checked (refused r) = Checked.Refused r
+-- The counts of messages and fields.
+abbrev pub both_counts : ℕ → ℕ → Counts
+both_counts m n = record { messages = m; fields = n }
 
-abbrev pub check : List ℕ → Checked
+-- The question check: both counts.
+abbrev pub checked : InFile → Result Counts Refusal
+checked (tiled m fields) = Ok (both_counts m (length fields))
+checked (refused r) = Err r
+
+abbrev pub check : List ℕ → Result Counts Refusal
 check file = checked (tiling_of file)

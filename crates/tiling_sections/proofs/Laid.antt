@@ -8,13 +8,14 @@ use native.Mathlib.Omega.{arith}
 use borrow.Author.Tests.{ne_eqb, eqb-true, eqb-false}
 use lib.Dec.{leb, eqb}
 use lib.ListN.{length, get_or}
+use Rattle.std.specs.Prelude.{Option, Some, None}
+use Rattle.octets.specs.declared.FilePlace.{FilePlace}
 use Rattle.octets.specs.Places.{at, place_of}
 use Rattle.octets.specs.Numbers.{octet_at}
 use Rattle.octets.proofs.Cases.{apart, split}
 use Rattle.section.specs.Sections.{length_at, kind_at, Lies}
 use Rattle.laws_machine.specs.Machine.{go, stop}
 use Rattle.laws_machine.proofs.Laws.{run_gives}
-use Rattle.tiling_sections.specs.declared.Bitmap.{Bitmap}
 use Rattle.tiling_sections.specs.declared.Starts.{Starts}
 use Rattle.tiling_sections.specs.declared.Located.{Located}
 use Rattle.tiling_sections.specs.Walk.{section_start, starts_by, starts_after, bitmap_after, nowhere, Walking, InMessage, passed, failed, finished_by, section_step, entering, sections}
@@ -89,8 +90,8 @@ none_is_0 Laws.next_grid e = omega arith
 none_is_0 Laws.next_field e = omega arith
 
 -- The bitmap in force behind a section is the one before it, its own, or none.
-stored_after : {file : List ℕ} {p : ℕ} (bitmap : Bitmap) → Lies file p → Stored file bitmap → (third sixth own : Bool) →
-    Stored file (cond third Bitmap.Absent (cond sixth (cond own (Bitmap.At (at p)) bitmap) bitmap))
+stored_after : {file : List ℕ} {p : ℕ} (bitmap : Option FilePlace) → Lies file p → Stored file bitmap → (third sixth own : Bool) →
+    Stored file (cond third None (cond sixth (cond own (Some (at p)) bitmap) bitmap))
 stored_after bitmap lies kept true sixth own q e = apart cc
 stored_after {file} {p} bitmap lies kept false true true q e = let same : p ≡ q.0 = cc in subst (Lies file) same lies
 stored_after bitmap lies kept false true false q e = kept q e

@@ -8,18 +8,17 @@ use native.Mathlib.Omega.{arith}
 use borrow.Author.Tests.{eq-eqb, ne_eqb, eqb-true, eqb-false, le-ltb, ltb-true, ltb-false, leb-true, leb-false}
 use lib.Dec.{ltb, leb, eqb}
 use lib.ListN.{length, length-append}
-use Rattle.octets.specs.declared.FilePlace.{FilePlace}
+use Rattle.std.specs.Prelude.{Option, Some, None, Result, Ok, Err}
 use Rattle.octets.proofs.Cases.{apart, split}
 use Rattle.octets.specs.Places.{at}
 use Rattle.section.specs.Sections.{length_at, kind_at}
-use Rattle.refusals.specs.declared.Why as declaredWhy
-use Rattle.refusals.specs.declared.Why.TheVariants as Why
+use Rattle.refusals.specs.declared.Why.{Why}
 use Rattle.refusals.specs.Refusals.{refusal}
 use Rattle.laws_machine.specs.Machine.{Next, go, stop, Trace}
 use Rattle.laws_machine.proofs.Laws.{run_go, run_stop, run_gives, run_trace, trace_run}
 use Rattle.tiling_sections.specs.declared.Located.{Located}
-use Rattle.tiling_sections.specs.declared.Step.{Step}
-use Rattle.tiling_sections.specs.Walk.{follows, section_at, Walking, InMessage, passed, failed, finished_by, took, stepped, section_step, walk_from, entering, sections}
+use Rattle.tiling_sections.specs.declared.Standing.{Standing}
+use Rattle.tiling_sections.specs.Walk.{follows, standing, section_at, Walking, InMessage, passed, failed, finished_by, took, stepped, section_step, walk_from, entering, sections}
 use Rattle.tiling_sections.specs.Stands.{Fits, Stands, ends, unfinished, misfit, strange, next}
 
 module _ (file : List ℕ) (p e after : ℕ) where
@@ -31,11 +30,11 @@ module _ (file : List ℕ) (p e after : ℕ) where
       split (leb (p + length_at file p) e) (λ j. fits (record { least = leb-true _ _ i; room = leb-true _ _ j })) (λ j. misfits (λ f. omega (arith, leb-false))))
       (λ i. misfits (λ f. omega (arith, leb-false)))
 
-  at_end : e ≤ p → section_at file p e after ≡ cond (eqb after 7) Step.End (Step.Bad Why.OutOfPlace)
+  at_end : e ≤ p → section_at file p e after ≡ cond (eqb after 7) (Ok None) (Err Why.OutOfPlace)
   unfolding section_at
   at_end h = rw (eq-eqb (e - p) 0 (omega arith))
 
-  at_misfit : p < e → (Fits file p e → ⊥) → section_at file p e after ≡ Step.Bad Why.BadLength
+  at_misfit : p < e → (Fits file p e → ⊥) → section_at file p e after ≡ Err Why.BadLength
   unfolding section_at
   at_misfit h misfits =
       rw (ne_eqb (e - p) 0 (λ i. omega arith))
@@ -46,14 +45,14 @@ module _ (file : List ℕ) (p e after : ℕ) where
       split (ltb (e - p) (length_at file p)) (λ k. rw (i, j, k))
       (λ k. absurd (misfits (record { least = ltb-false _ _ j; room = omega (arith, ltb-false) }))))))
 
-  at_fit : Fits file p e → section_at file p e after ≡ cond (follows after (kind_at file p)) (Step.Next (kind_at file p) (at (p + length_at file p))) (Step.Bad Why.OutOfPlace)
+  at_fit : Fits file p e → section_at file p e after ≡ cond (follows after (kind_at file p)) (Ok (Some (standing (kind_at file p) (at (p + length_at file p))))) (Err Why.OutOfPlace)
   unfolding section_at
   at_fit f =
       let room : length_at file p ≤ e - p = omega arith in
       rw (ne_eqb (e - p) 0 (λ i. omega arith), le-ltb (e - p) 5 (omega arith), le-ltb (length_at file p) 5 f.least, le-ltb (e - p) (length_at file p) room)
 
   -- `Stands` says what `section_at` computes, and nothing else.
-  pub stands_only : {s : Step} → Stands file p e after s → section_at file p e after ≡ s
+  pub stands_only : {s : Result (Option Standing) Why} → Stands file p e after s → section_at file p e after ≡ s
   stands_only (ends h i) = at_end h ∙ rw (eq-eqb after 7 i)
   stands_only (unfinished h i) = at_end h ∙ rw (ne_eqb after 7 i)
   stands_only (misfit h i) = at_misfit h i
@@ -67,30 +66,30 @@ module _ (file : List ℕ) (p e after : ℕ) where
       fitting (λ f. split (follows after (kind_at file p)) (λ j. exactly (next f j)) (λ j. exactly (strange f j))) (λ f. exactly (misfit (ltb-true _ _ i) f)))
       (λ i. split (eqb after 7) (λ j. exactly (ends (ltb-false _ _ i) (eqb-true _ _ j))) (λ j. exactly (unfinished (ltb-false _ _ i) (eqb-false _ _ j))))
     where
-      exactly : {s : Step} → Stands file p e after s → Stands file p e after (section_at file p e after)
+      exactly : {s : Result (Option Standing) Why} → Stands file p e after s → Stands file p e after (section_at file p e after)
       exactly s = rw (stands_only s) s
 
   -- A section takes 5 octets or more, and ends where the sections end or before.
-  pub next_within : {n : ℕ} {q : FilePlace} → section_at file p e after ≡ Step.Next n q → (p + 5 ≤ q.0) × (q.0 ≤ e)
+  pub next_within : {s : Standing} → section_at file p e after ≡ Ok (Some s) → (p + 5 ≤ s.next.0) × (s.next.0 ≤ e)
   next_within h = by (rw h at stands)
     where
-      by : {n : ℕ} {q : FilePlace} → Stands file p e after (Step.Next n q) → (p + 5 ≤ q.0) × (q.0 ≤ e)
+      by : {s : Standing} → Stands file p e after (Ok (Some s)) → (p + 5 ≤ s.next.0) × (s.next.0 ≤ e)
       by (next f i) = omega arith
 
 module _ (file : List ℕ) (e : ℕ) where
   -- What one step of the walk does, by what stands there.
   pub data Walks (w : Walking) : Next Walking InMessage → Type 0 where
-    on : {n : ℕ} {q : FilePlace} → Stands file w.place e w.after (Step.Next n q) → Walks w (go (took file w n q.0))
-    end : Stands file w.place e w.after Step.End → Walks w (stop (passed (e + 4) w.fields))
-    bad : {why : declaredWhy.Why} → Stands file w.place e w.after (Step.Bad why) → Walks w (stop (failed (refusal why w.place)))
+    on : {s : Standing} → Stands file w.place e w.after (Ok (Some s)) → Walks w (go (took file w s.number s.next.0))
+    end : Stands file w.place e w.after (Ok None) → Walks w (stop (passed (e + 4) w.fields))
+    bad : {why : Why} → Stands file w.place e w.after (Err why) → Walks w (stop (failed (refusal why w.place)))
 
   pub walks : (w : Walking) → Walks w (section_step file e w)
   walks w = by (section_at file w.place e w.after) (stands file w.place e w.after)
     where
-      by : (s : Step) → Stands file w.place e w.after s → Walks w (stepped file e w s)
-      by (Step.Next n q) s = on s
-      by Step.End s = end s
-      by (Step.Bad why) s = bad s
+      by : (s : Result (Option Standing) Why) → Stands file w.place e w.after s → Walks w (stepped file e w s)
+      by (Ok (Some _)) s = on s
+      by (Ok None) s = end s
+      by (Err _) s = bad s
 
   pub falls : (w t : Walking) → section_step file e w ≡ go t → e - t.place < e - w.place
   falls w t h = by (subst (Walks w) h (walks w))
@@ -99,13 +98,13 @@ module _ (file : List ℕ) (e : ℕ) where
       by (on (next f i)) = omega arith
 
   -- One section of the walk.
-  pub walk_on : (w : Walking) (n : ℕ) (q : FilePlace) → section_at file w.place e w.after ≡ Step.Next n q → walk_from file e w ≡ walk_from file e (took file w n q.0)
-  walk_on w n q h = run_go (section_step file e) (passed (e + 4) []) (λ (v : Walking). e - v.place) falls w (took file w n q.0) (ap (stepped file e w) h)
+  pub walk_on : (w : Walking) (s : Standing) → section_at file w.place e w.after ≡ Ok (Some s) → walk_from file e w ≡ walk_from file e (took file w s.number s.next.0)
+  walk_on w s h = run_go (section_step file e) (passed (e + 4) []) (λ (v : Walking). e - v.place) falls w (took file w s.number s.next.0) (ap (stepped file e w) h)
 
-  pub walk_end : (w : Walking) → section_at file w.place e w.after ≡ Step.End → walk_from file e w ≡ passed (e + 4) w.fields
+  pub walk_end : (w : Walking) → section_at file w.place e w.after ≡ Ok None → walk_from file e w ≡ passed (e + 4) w.fields
   walk_end w h = run_stop (section_step file e) (passed (e + 4) []) (λ (v : Walking). e - v.place) falls w _ (ap (stepped file e w) h)
 
-  pub walk_bad : (w : Walking) (why : declaredWhy.Why) → section_at file w.place e w.after ≡ Step.Bad why → walk_from file e w ≡ failed (refusal why w.place)
+  pub walk_bad : (w : Walking) (why : Why) → section_at file w.place e w.after ≡ Err why → walk_from file e w ≡ failed (refusal why w.place)
   walk_bad w why h = run_stop (section_step file e) (passed (e + 4) []) (λ (v : Walking). e - v.place) falls w _ (ap (stepped file e w) h)
 
   -- The walk's answer is the one that its steps lead to.

@@ -9,17 +9,16 @@ use borrow.Author.Tests.{eqb-true, eqb-false, ltb-true, ltb-false}
 use lib.Dec.{ltb, eqb}
 use lib.ListN.{length, get_or, length-append, get_or-append, get_or-eq_default}
 use lib.Seq.{get_or-append_seam}
+use Rattle.std.specs.Prelude.{Option, Some, None, Ok, Err}
 use Rattle.octets.specs.declared.FilePlace.{FilePlace}
 use Rattle.octets.specs.Places.{at}
 use Rattle.octets.proofs.Cases.{split}
 use Rattle.refusals.specs.declared.Why.{Why}
 use Rattle.refusals.specs.Refusals.{refusal}
-use Rattle.tiling_sections.specs.declared.Bitmap.{Bitmap}
 use Rattle.tiling_sections.specs.declared.Starts.{Starts}
 use Rattle.tiling_sections.specs.declared.Located.{Located}
-use Rattle.tiling_sections.specs.declared.Step.TheVariants as Step
-use Rattle.tiling_sections.specs.declared.Walked.TheVariants as Walked
-use Rattle.tiling_sections.specs.Walk.{Walking, section_at, starts_after, bitmap_after, finished_by, walk_from, sections, told, nowhere}
+use Rattle.tiling_sections.specs.declared.Standing.{Standing}
+use Rattle.tiling_sections.specs.Walk.{Walking, section_at, starts_after, bitmap_after, finished_by, walk_from, sections, walked_of, told, nowhere}
 use Rattle.tiling_sections.proofs.Laws.{next_within, walk_on, walk_end, walk_bad}
 
 -- The walk as the code carries it: the place that it has come to, the number of the section before that, how many fields are finished, the
@@ -29,7 +28,7 @@ pub record Progress : Type 0 where
   pub after : ℕ
   pub fields : ℕ
   pub starts : Starts
-  pub bitmap : Bitmap
+  pub bitmap : Option FilePlace
   pub hit : Located
 
 -- The code's walk past a section numbered n that ends at q, in search of field k.
@@ -62,8 +61,7 @@ pub record Reached (file : List ℕ) (p e k : ℕ) (w : Progress) : Type 0 where
 
 -- The walk begins behind section 0, with nothing found.
 pub reached_start : (file : List ℕ) (p e k : ℕ) {hit : Located} {starts : Starts} → p + 16 ≤ e → hit ≡ nowhere → starts ≡ starts_after hit.starts 0 p →
-    Reached file starts.zero.0 e k (record { at = at (p + 16); after = 0; fields = 0; starts = starts; bitmap = Bitmap.Absent; hit = hit })
-unfolding starts_after
+    Reached file p e k (record { at = at (p + 16); after = 0; fields = 0; starts = starts; bitmap = None; hit = hit })
 reached_start file p e k h none opened = rw (opened, none) (record { inside = h; few = omega arith; fields = []; counts = refl; found = refl; same = refl })
 
 -- Field k of a list, once the list has one field more.
@@ -78,11 +76,12 @@ found_more fields x k =
     ∙ sym (get_or-eq_default fields nowhere (ltb-false _ _ j)))))
 
 module _ {file : List ℕ} {p e k : ℕ} {w : Progress} (r : Reached file p e k w) where
-  pub reached_on : {n : ℕ} {q : FilePlace} → section_at file w.at.0 e w.after ≡ Step.Next n q → Reached file p e k (onward file w k n q.0)
-  reached_on {n} {q} h =
-      let within : (w.at.0 + 5 ≤ q.0) × (q.0 ≤ e) = next_within file w.at.0 e w.after h in
-      let on : sections file p e ≡ _ = r.same ∙ walk_on file e (walking w r.fields) n q h in
-      let x : Located = finished_by file (walking w r.fields) n q.0 in
+  pub reached_on : {s : Standing} → section_at file w.at.0 e w.after ≡ Ok (Some s) → Reached file p e k (onward file w k s.number s.next.0)
+  reached_on {s} h =
+      let n : ℕ = s.number in
+      let within : (w.at.0 + 5 ≤ s.next.0) × (s.next.0 ≤ e) = next_within file w.at.0 e w.after h in
+      let on : sections file p e ≡ _ = r.same ∙ walk_on file e (walking w r.fields) s h in
+      let x : Located = finished_by file (walking w r.fields) n s.next.0 in
       split (eqb n 7)
       (λ i.
       rw i
@@ -96,8 +95,8 @@ module _ {file : List ℕ} {p e k : ℕ} {w : Progress} (r : Reached file p e k 
       }))
       (λ i. rw i (record { inside = within.1; few = omega arith; fields = r.fields; counts = r.counts; found = r.found; same = rw i at on }))
 
-  pub reached_end : section_at file w.at.0 e w.after ≡ Step.End → told k (sections file p e) ≡ Walked.Fields w.fields (at (e + 4)) w.hit
-  reached_end h = ap (told k) (r.same ∙ walk_end file e _ h) ∙ ap₂ (λ (n : ℕ) (l : Located). Walked.Fields n (at (e + 4)) l) r.counts r.found
+  pub reached_end : section_at file w.at.0 e w.after ≡ Ok None → told k (sections file p e) ≡ Ok (walked_of w.fields (at (e + 4)) w.hit)
+  reached_end h = ap (told k) (r.same ∙ walk_end file e _ h) ∙ ap₂ (λ (n : ℕ) (l : Located). Ok (walked_of n (at (e + 4)) l)) r.counts r.found
 
-  pub reached_bad : {why : Why} → section_at file w.at.0 e w.after ≡ Step.Bad why → told k (sections file p e) ≡ Walked.Bad (refusal why w.at.0)
+  pub reached_bad : {why : Why} → section_at file w.at.0 e w.after ≡ Err why → told k (sections file p e) ≡ Err (refusal why w.at.0)
   reached_bad {why} h = ap (told k) (r.same ∙ walk_bad file e _ why h)

@@ -1,14 +1,13 @@
 -- RULES, "Tiling a file": what is known of where a field lies: section 0 of its message is in the file, each of its sections lies there whole, and so
 -- does the section 6 that has the bitmap in force.
-use Rattle.std.specs.Prelude.{ℕ, ◌+◌, ◌≤◌, ◌≡◌, List, length}
+use Rattle.std.specs.Prelude.{ℕ, ◌+◌, ◌≤◌, ◌≡◌, List, length, Option, Some}
 use Rattle.octets.specs.declared.FilePlace.{FilePlace}
 use Rattle.section.specs.Sections.{Lies}
-use Rattle.tiling_sections.specs.declared.Bitmap.{Bitmap}
 use Rattle.tiling_sections.specs.declared.Located.{Located}
 
 -- Where a bitmap is in force, the section that has it lies in the file.
-abbrev pub Stored : List ℕ → Bitmap → Type 0
-Stored file bitmap = (p : FilePlace) → bitmap ≡ Bitmap.At p → Lies file p.0
+abbrev pub Stored : List ℕ → Option FilePlace → Type 0
+Stored file bitmap = (p : FilePlace) → bitmap ≡ Some p → Lies file p.0
 
 -- What is known of a field that lies at l.
 pub record Laid (file : List ℕ) (l : Located) : Type 0 where
