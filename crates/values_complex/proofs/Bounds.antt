@@ -12,9 +12,10 @@ use Rattle.octets.proofs.Cases.{split, chosen}
 use Rattle.octets.specs.Places.{first_bit}
 use Rattle.octets.specs.declared.Signed.{Signed}
 use Rattle.section_7_layout.specs.Runs.{width_of, length_of}
-use Rattle.section_7_layout.proofs.Laws.{Bounded, layout_bounded, run_fits, stored_fits}
+use Rattle.section_7_layout.proofs.Laws.{run_fits, stored_fits}
 use Rattle.section_7.specs.Packing.{values_before, bits_before, are_sound}
 use Rattle.section_7.proofs.Laws.{sound_more, sound_widths, values_more, bits_more, values_mono, bits_of_values}
+use Rattle.values_group.specs.declared.Latest.{Latest}
 use Rattle.values_group.specs.Group.{most_x, Limits}
 use Rattle.values_integers.specs.Integers.{reference_of}
 use Rattle.values_integers.specs.Worked.{raised_by, lowered_by}
@@ -50,10 +51,6 @@ start_more run g i =
     rw (values_more run g.layout g.grouping i, place)
 
 module _ (run : List ℕ) (g : Groups) (sound : Sound run g) where
-  -- The runs of the section start within bounds.
-  pub starts_bounded : Bounded g.layout
-  starts_bounded = rw sound.placed (layout_bounded g.bits g.grouping sound.limited sound.groups_fit)
-
   -- The octet on which the packed values start is so low that its first bit's place is small too.
   pub packed_low : g.layout.packed.0 < 2 ^ 36
   packed_low =
@@ -97,7 +94,7 @@ module _ (run : List ℕ) (g : Groups) (sound : Sound run g) where
     end_low = omega (arith, packed_low, bits_fit)
 
 -- A group that is read from a section that is judged sound is within the limits of the recurrence.
-pub group_limits : (run : List ℕ) (g : Groups) (i : ℕ) → Sound run g → i < g.grouping.groups → {x before : ℕ} → x ≤ most_x → before ≤ most_x → Limits (group_at run g i) x before
+pub group_limits : (run : List ℕ) (g : Groups) (i : ℕ) → Sound run g → i < g.grouping.groups → {latest : Latest} → latest.x ≤ most_x → latest.before ≤ most_x → Limits (group_at run g i) latest
 group_limits run g i sound within h k =
     let length : ℕ = length_of run g.layout g.grouping i in
     let all : skipped (values_before run g.layout g.grouping i) length + (group_at run g i).count ≡ length = omega (arith, skipped_within (values_before run g.layout g.grouping i) length) in

@@ -11,8 +11,8 @@ use Rattle.octets.proofs.Cases.{split}
 use Rattle.section_7.specs.declared.Groups.{Groups}
 use Rattle.section_7.specs.Packing.{values_before, bits_before}
 use Rattle.values_group.specs.declared.Group.{Group}
-use Rattle.values_group.specs.declared.Worked as declared
-use Rattle.values_group.specs.declared.Worked.TheVariants as Worked
+use Rattle.std.specs.Prelude.{Option, Some, None}
+use Rattle.values_group.specs.declared.Latest.{Latest}
 use Rattle.values_group.specs.Group.{most_x, Limits, worked_by}
 use Rattle.values_integers.specs.Integers.{stored_at}
 use Rattle.values_integers.proofs.Joined.{worked_sound}
@@ -23,7 +23,7 @@ use Rattle.values_complex.proofs.Joined.{group_worked, group_ends, first_kept, f
 use Rattle.values_complex.proofs.Passed.{worked_before}
 
 -- A group and what is kept before it are within the limits of the recurrence.
-pub kept_limits : (run : List ℕ) (g : Groups) (m : ℕ) {i x before : ℕ} → worked_in run g m ≡ Worked.Kept x before → i < g.grouping.groups → Sound run g → Limits (group_at run g i) x before
+pub kept_limits : (run : List ℕ) (g : Groups) (m : ℕ) {i : ℕ} {latest : Latest} → worked_in run g m ≡ Some latest → i < g.grouping.groups → Sound run g → Limits (group_at run g i) latest
 kept_limits run g m {i} kept h sound =
     let integers = worked_sound g.differencing (stored_at run g.layout g.bits g.grouping) m kept in
     group_limits run g i sound h integers.last_fits integers.before_fits
@@ -46,7 +46,7 @@ cut g most =
     let enough = ltb-false most g.count less in
     record { few = omega arith; asked = omega arith; whole = λ _. same })
 
-pub cut_limits : (g : Group) (most : ℕ) {x before : ℕ} → Limits g x before → Limits (first_of g most) x before
+pub cut_limits : (g : Group) (most : ℕ) {latest : Latest} → Limits g latest → Limits (first_of g most) latest
 cut_limits g most sizes =
     record {
       of_end = omega (arith, sizes.of_end, mul-le-mul_right g.width (cut g most).few);
@@ -59,16 +59,16 @@ cut_limits g most sizes =
     }
 
 -- How far the first pass has come: of the integers that are wanted behind the second, so many are left, the last two are kept, and group i is the next.
-pub record Working (run : List ℕ) (g : Groups) (wanted left i x before : ℕ) (start : Start) : Type 0 where
+pub record Working (run : List ℕ) (g : Groups) (wanted left i : ℕ) (latest : Latest) (start : Start) : Type 0 where
   pub few : left ≤ wanted
   pub within : i ≤ g.grouping.groups
-  pub kept : worked_in run g (wanted - left) ≡ Worked.Kept x before
+  pub kept : worked_in run g (wanted - left) ≡ Some latest
   pub next : 0 < left → (wanted - left ≡ worked_before run g i) × (start ≡ start_of run g i)
 
 module _ (run : List ℕ) (g : Groups) (wanted : ℕ) where
   -- Before the first group all are left.
   pub working_none : g.differencing.first ≤ most_x → g.differencing.second ≤ most_x → {bit : ℕ} → bit ≡ first_bit g.layout.packed.0 →
-      Working run g wanted wanted 0 g.differencing.second g.differencing.first (record { values = 0; bit = record { 0 = bit } })
+      Working run g wanted wanted 0 (record { x = g.differencing.second; before = g.differencing.first }) (record { values = 0; bit = record { 0 = bit } })
   unfolding values_before bits_before
   working_none h k {bit} first =
       let none : wanted - wanted ≡ 0 = omega arith in
@@ -79,11 +79,7 @@ module _ (run : List ℕ) (g : Groups) (wanted : ℕ) where
         next = λ _. (none, ap (λ (n : ℕ). record { values = 0; bit = record { 0 = n } }) (first ∙ sym (add-zero (first_bit g.layout.packed.0))));
       }
 
-  -- Behind the last, nothing is left.
-  pub working_all : {i x before : ℕ} {start : Start} → Working run g wanted 0 i x before start → Worked.Kept x before ≡ worked_in run g wanted
-  working_all w = let all : wanted - 0 ≡ wanted = omega arith in sym w.kept ∙ ap (worked_in run g) all
-
-  module _ {left i x before : ℕ} {start : Start} (w : Working run g wanted left i x before start) (more : 0 < left) where
+  module _ {left i : ℕ} {latest : Latest} {start : Start} (w : Working run g wanted left i latest start) (more : 0 < left) where
     -- Where some are left, there is a group that has them.
     pub working_group : wanted + 2 ≤ values_in run g → i < g.grouping.groups
     working_group fits =
@@ -92,8 +88,8 @@ module _ (run : List ℕ) (g : Groups) (wanted : ℕ) where
         let last : i ≡ g.grouping.groups = omega (arith, w.within, ltb-false i g.grouping.groups past) in
         absurd (omega (arith, w.few, (w.next more).0, ap (values_before run g.layout g.grouping) last)))
 
-    module _ (inside : i < g.grouping.groups) {answer : declared.Worked}
-        (judged : answer ≡ worked_by run (first_of (group_at run g i) left) (Worked.Kept x before) (first_of (group_at run g i) left).count) where
+    module _ (inside : i < g.grouping.groups) {answer : Option Latest}
+        (judged : answer ≡ worked_by run (first_of (group_at run g i) left) (Some latest) (first_of (group_at run g i) left).count) where
       abbrev count : ℕ
       count = (first_of (group_at run g i) left).count
 
@@ -104,15 +100,15 @@ module _ (run : List ℕ) (g : Groups) (wanted : ℕ) where
           let here = (w.next more).0 in
           let place : worked_before run g i + count ≡ wanted - (left - count) = omega (arith, w.few, counted.asked, here) in
           judged
-          ∙ first_worked run g (group_at run g i) left (Worked.Kept x before) count
-          ∙ ap (λ (v : declared.Worked). worked_by run (group_at run g i) v count) (sym w.kept ∙ ap (worked_in run g) here)
+          ∙ first_worked run g (group_at run g i) left (Some latest) count
+          ∙ ap (λ (v : Option Latest). worked_by run (group_at run g i) v count) (sym w.kept ∙ ap (worked_in run g) here)
           ∙ group_worked run g i count inside counted.few
           ∙ ap (worked_in run g) place
 
-      pub working_out : answer ≡ Worked.Out → Worked.Out ≡ worked_in run g wanted
+      pub working_out : answer ≡ None → None ≡ worked_in run g wanted
       working_out out = sym (out_later run g wanted (omega arith) (sym behind_these ∙ out))
 
-      pub working_on : {last previous : ℕ} → answer ≡ Worked.Kept last previous → Working run g wanted (left - count) (i + 1) last previous (start_of run g (i + 1))
+      pub working_on : {after : Latest} → answer ≡ Some after → Working run g wanted (left - count) (i + 1) after (start_of run g (i + 1))
       working_on kept =
           let counted = cut (group_at run g i) left in
           record {

@@ -1,5 +1,5 @@
 -- RULES, "Section 7", complex packing: the groups of a field, one after the other, and the integers X of the field.
-use Rattle.std.specs.Prelude.{ℕ, suc, ◌+◌, ◌-◌, ◌*◌, ◌≤◌, ◌<◌, ◌^◌, ◌≡◌, true, cond, List, ltb, ℤ, nat_abs}
+use Rattle.std.specs.Prelude.{ℕ, suc, ◌+◌, ◌-◌, ◌*◌, ◌≤◌, ◌<◌, ◌^◌, ◌≡◌, true, cond, List, ltb, ℤ, nat_abs, Option, Some, None}
 use Rattle.octets.specs.Places.{first_bit}
 use Rattle.section_7_layout.specs.Runs.{layout_of, width_of, length_of, Limited}
 use Rattle.section_7.specs.Packing.{values_before, bits_before, are_sound}
@@ -7,14 +7,11 @@ use Rattle.doubles.specs.declared.Packing.{Packing}
 use Rattle.values_points.specs.Written.{Marks, Runs, Written}
 use Rattle.values_group.specs.declared.Group.{Group}
 use Rattle.values_group.specs.declared.Latest.{Latest}
-use Rattle.values_group.specs.declared.Worked.{Worked}
 use Rattle.values_group.specs.Group.{integers_of}
 use Rattle.values_integers.specs.Integers.{reference_of, stored_at, integer, are_in_range}
 use Rattle.values_integers.specs.Worked.{raised_by, lowered_by, worked}
 use Rattle.section_7.specs.declared.Groups.{Groups}
 use Rattle.values_complex.specs.declared.Reached.{Reached}
-use Rattle.values_complex.specs.declared.Single as declaredSingle
-use Rattle.values_complex.specs.declared.Single.TheVariants as Single
 use Rattle.values_complex.specs.declared.Start.{Start}
 
 -- Where the groups are known by their section's octets: all values in them, and the integer X of value m.
@@ -30,7 +27,7 @@ module _ (run : List ℕ) (g : Groups) where
   size_in m = nat_abs (integer_in m)
 
   -- What is worked out behind the second value and so many more.
-  abbrev pub worked_in : ℕ → Worked
+  abbrev pub worked_in : ℕ → Option Latest
   worked_in m = worked g.differencing (stored_at run g.layout g.bits g.grouping) m
 
   -- Every integer of the field is in its range.
@@ -38,8 +35,8 @@ module _ (run : List ℕ) (g : Groups) where
   AllInRange = are_in_range integer_in values_in ≡ true
 
 -- RULES, "One point": the integer numbered m alone, which is told where none up to it is out of its range.
-abbrev pub single_of : (ℕ → ℤ) → ℕ → declaredSingle.Single
-single_of x m = cond (are_in_range x (suc m)) (Single.Is (nat_abs (x m))) Single.Out
+abbrev pub single_of : (ℕ → ℤ) → ℕ → Option ℕ
+single_of x m = cond (are_in_range x (suc m)) (Some (nat_abs (x m))) None
 
 -- The packed numbers of the first two values are there and not used. Where so many values stand before a group of such a length, that many of
 -- its own are among the first two.
@@ -79,11 +76,7 @@ pub record Sound (run : List ℕ) (g : Groups) : Type 0 where
   pub few_values : values_in run g ≤ 16777216
   pub zmin_fits : g.differencing.zmin.size < 2 ^ 31
 
--- The last two integers of how far the writing has come.
-abbrev pub latest_of : Reached → Latest
-latest_of r = record { x = r.x; before = r.before }
-
 -- All integers of the group, behind the two last ones, are written to the points from the next one on, up to where the writing has come then.
 abbrev pub GroupWritten : Marks → Packing → List ℕ → Group → Reached → Reached → Runs → Runs → Type 0
 GroupWritten m p run g from to before after =
-    Written m p (integers_of run g (latest_of from)) g.count from.point to.point before after
+    Written m p (integers_of run g from.latest) g.count from.point to.point before after

@@ -1,5 +1,5 @@
-// Complex packing with second differences (5.3): the groups of a field one after the other, judged in a first pass that writes nothing, and written in a second one;
-// and one integer of a field, which the first pass alone finds.
+// Complex packing with second differences (5.3): the groups of a field one after the other, judged in a first pass that writes nothing, and written
+// in a second one; and one integer of a field, which the first pass alone finds.
 #![tactic(auto)]
 
 ghost use Rattle.std.specs.Prelude.{◌≡◌, ◌+◌, ◌≤◌, ◌<◌, length};
@@ -7,12 +7,12 @@ ghost use Rattle.values_points.specs.Written.{marks_in, lent, left, Room, Points
 ghost use Rattle.values_group.specs.Group.{Limits, GroupKept, GroupGoes};
 ghost use Rattle.values_integers.specs.Worked.{raised_by, lowered_by};
 ghost use Rattle.values_integers.specs.Integers.{are_in_range};
-ghost use Rattle.values_complex.specs.Complex.{skipped, start_of, group_at, first_of, values_in, integer_in, size_in, worked_in, single_of, AllInRange, Sound, latest_of, GroupWritten};
+ghost use Rattle.values_complex.specs.Complex.{skipped, start_of, group_at, first_of, values_in, integer_in, size_in, worked_in, single_of, AllInRange, Sound, GroupWritten};
 
 use doubles::Packing;
 use octets::{BitPlace, Signed};
 use section_7::Groups;
-use values_group::{Group, Latest, Worked};
+use values_group::{Group, Latest};
 
 // Where a group starts: how many values stand before it, and the place of its first bit.
 #[derive(Clone, Copy)]
@@ -28,19 +28,11 @@ pub struct Met {
     pub next: Start,
 }
 
-// How far the writing has come: the last integer, the one before it, and the next point.
+// How far the writing has come: the last two integers, and the next point.
 #[derive(Clone, Copy)]
 pub struct Reached {
-    pub x: u64,
-    pub before: u64,
+    pub latest: Latest,
     pub point: usize,
-}
-
-// One integer of a field, or that it or one before it is out of its range.
-#[derive(Clone, Copy)]
-pub enum Single {
-    Is(u32),
-    Out,
 }
 
 // What Zmin adds.
@@ -119,15 +111,16 @@ fn first_of(group: Group, most: u64) -> Group
 }
 
 // Works out so many integers behind the second, group by group, and stops at one that is out of its range. It writes nothing, and looks at nothing behind them.
-fn worked_to(section: &[u8], groups: Groups, wanted: u64) -> Worked
+fn worked_to(section: &[u8], groups: Groups, wanted: u64) -> Option<Latest>
     requires sound { (Sound section.now groups) × (wanted + 2 ≤ values_in section.now groups) }
     requires first_bound { (groups.differencing.first ≤ 2147483647) × (groups.differencing.second ≤ 2147483647) }
     ensures { result ≡ worked_in section.now groups wanted }
 {
     let layout = groups.layout;
     let differencing = groups.differencing;
-    let mut x = differencing.second as u64;
-    let mut before = differencing.first as u64;
+    let x = differencing.second as u64;
+    let before = differencing.first as u64;
+    let mut latest = Latest { x, before };
     let bit = octets::first_bit(layout.packed);
     let mut start = Start { values: 0, bit };
     let mut i: u32 = 0;
@@ -135,20 +128,12 @@ fn worked_to(section: &[u8], groups: Groups, wanted: u64) -> Worked
     while 0 < left {
         let met = group_at(section, groups, i, start);
         let group = first_of(met.group, left);
-        let Worked::Kept {
-            x: last,
-            before: previous,
-        } = values_group::judge(section, group, x, before)
-        else {
-            return Worked::Out;
-        };
-        x = last;
-        before = previous;
+        latest = values_group::judge(section, group, latest)?;
         start = met.next;
         i += 1;
         left -= group.count;
     }
-    Worked::Kept { x, before }
+    Some(latest)
 }
 
 // Is every integer X of the field from 0 to 2,147,483,647? There are n of them.
@@ -163,31 +148,26 @@ pub fn is_in_range(section: &[u8], groups: Groups, n: u64) -> bool
     if 2147483647 < differencing.second {
         return false;
     }
-    match worked_to(section, groups, n - 2) {
-        Worked::Kept { x: _, before: _ } => true,
-        Worked::Out => false,
-    }
+    worked_to(section, groups, n - 2).is_some()
 }
 
 // The integer numbered m of the field, where none up to it is out of its range. Those behind it are not looked at: for the first, the second is not.
-pub fn integer_at(section: &[u8], groups: Groups, m: u64) -> Single
+pub fn integer_at(section: &[u8], groups: Groups, m: u64) -> Option<u32>
     requires { (Sound section.now groups) × (m < values_in section.now groups) }
     ensures { result ≡ single_of (integer_in section.now groups) m }
 {
     let differencing = groups.differencing;
     if 2147483647 < differencing.first {
-        return Single::Out;
+        return None;
     }
     if m == 0 {
-        return Single::Is(differencing.first);
+        return Some(differencing.first);
     }
     if 2147483647 < differencing.second {
-        return Single::Out;
+        return None;
     }
-    match worked_to(section, groups, m - 1) {
-        Worked::Kept { x, before: _ } => Single::Is(x as u32),
-        Worked::Out => Single::Out,
-    }
+    let latest = worked_to(section, groups, m - 1)?;
+    Some(latest.x as u32)
 }
 
 // Writes the group's integers to the next points that are present, and +0 to those missing before each: a block at a time.
@@ -201,17 +181,14 @@ fn write_group(
     presence: &mut [u8],
     reached: Reached,
 ) -> Reached
-    requires limits { (Limits group reached.x reached.before) × (GroupKept section.now group (latest_of reached) group.count) }
+    requires limits { (Limits group reached.latest) × (GroupKept section.now group reached.latest group.count) }
     requires room { (Room bitmap.now values.old presence.old) × (PointsLeft bitmap.now reached.point group.count (length values.old)) }
     requires block_len { length block.old ≡ 56 }
-    ensures group_goes { GroupGoes section.now group (latest_of reached) group.count (latest_of result) }
+    ensures group_goes { GroupGoes section.now group reached.latest group.count result.latest }
     ensures group_written { GroupWritten (marks_in bitmap.now) packing section.now group reached result
         (lent values presence) (left values presence) }
 {
-    let mut latest = Latest {
-        x: reached.x,
-        before: reached.before,
-    };
+    let mut latest = reached.latest;
     let mut point = reached.point;
     let mut done: u64 = 0;
     while done < group.count {
@@ -220,11 +197,7 @@ fn write_group(
         point = values_points::write(bitmap, packing, &block[0..n], values, presence, point);
         done += n as u64;
     }
-    Reached {
-        x: latest.x,
-        before: latest.before,
-        point,
-    }
+    Reached { latest, point }
 }
 
 // Fills the runs for a field: the first two integers, and then group by group.
@@ -251,18 +224,17 @@ pub fn fill(
     let point = values_points::write(bitmap, packing, &block[0..2], values, presence, 0);
     let x = differencing.second as u64;
     let before = differencing.first as u64;
-    let mut reached = Reached { x, before, point };
+    let latest = Latest { x, before };
+    let mut reached = Reached { latest, point };
     let bit = octets::first_bit(layout.packed);
     let mut start = Start { values: 0, bit };
-    let mut i: u32 = 0;
-    while i < grouping.groups {
+    for i in 0..grouping.groups {
         let met = group_at(section, groups, i, start);
         let group = met.group;
         reached = write_group(
             section, bitmap, group, packing, &mut block, values, presence, reached,
         );
         start = met.next;
-        i += 1;
     }
     values_points::clear_missing(bitmap, values, presence, reached.point);
 }

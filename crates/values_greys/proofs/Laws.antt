@@ -1,14 +1,14 @@
 -- The laws of greys in a lent run: which integers have one, and a stretch of the run that was lent on and came back with a row of them.
 use mathlib.Core.Path.{◌≡◌, refl, sym, ap, ap₂, ◌∙◌}
 use mathlib.Core.List.{List, [], ◌∷◌, ◌++◌, append_assoc}
-use Prim.Native.Nat.{ℕ, zero, suc, ◌+◌, ◌-◌, ◌*◌, ◌/◌, ◌≤◌, ◌<◌}
+use Prim.Native.Nat.{ℕ, zero, suc, ◌+◌, ◌*◌, ◌/◌, ◌≤◌, ◌<◌}
 use native.Mathlib.Nat.{div-le_self}
 use native.Mathlib.Omega.{arith}
-use borrow.Author.Tests.{eqb-true, eqb-false, ltb-true, ltb-false}
+use borrow.Author.Tests.{ltb-true, ltb-false}
 use borrow.Rule.Slice.PartMut.{put_mid}
 use lib.Dec.{eqb, ltb}
-use lib.ListN.{length, take, drop, get_or, set, length-append, length-set, length-drop, take-append-drop}
-use lib.Seq.{length-take-le, set_at, drop-cons, ext_get_or, get_or-set_same, get_or-set_other}
+use lib.ListN.{length, take, drop, get_or, set, length-append, length-drop, take-append-drop}
+use lib.Seq.{length-take-le, set_at, drop-cons, ext_get_or}
 use Rattle.octets.proofs.Cases.{split}
 use Rattle.bits.specs.Bits.{bits_at}
 use Rattle.laws_rows.specs.Rows.{row, filled}
@@ -47,47 +47,16 @@ no_bits_grey run scale none m = rw none (split (eqb scale.largest 0) (λ is. rw 
     zero_over : (n : ℕ) → 254 * 0 / n ≡ 0
     zero_over n = omega (arith, div-le_self (254 * 0) n)
 
--- The first octets and as many of the last ones are 1, and those between them are left.
-pub record Ends (n i end : ℕ) (greys : List ℕ) : Type 0 where
+-- The first i octets and as many of the last ones are 1, and those between them are left.
+pub record Ends (n i : ℕ) (greys : List ℕ) : Type 0 where
   pub long : length greys ≡ n
-  pub meet : i + end ≡ n
   pub first : (j : ℕ) → j < i → get_or greys j 0 ≡ 1
-  pub last : (j : ℕ) → end ≤ j → j < n → get_or greys j 0 ≡ 1
-
-pub ends_none : (greys : List ℕ) → Ends (length greys) 0 (length greys) greys
-ends_none greys = record { long = refl; meet = omega arith; first = λ j h. absurd (omega arith); last = λ j h l. absurd (omega arith) }
-
--- One octet more from each end.
-pub ends_more : {n i end : ℕ} {greys : List ℕ} → Ends n i end greys → i < end → Ends n (i + 1) (end - 1) (set (set greys i 1) (end - 1) 1)
-ends_more {n} {i} {end} {greys} e h =
-    record {
-      long = length-set (set greys i 1) (end - 1) 1 ∙ length-set greys i 1 ∙ e.long;
-      meet = omega (arith, e.meet);
-      first = λ j l. split (eqb j i) (λ here. new_first j (eqb-true j i here) (omega (arith, l, e.meet, h))) (λ there. old j (e.first j (omega (arith, l, eqb-false j i there))) (omega (arith, l, e.meet, h)));
-      last = λ j l k. split (eqb j (end - 1)) (λ here. new_last j (eqb-true j (end - 1) here) k) (λ there. old j (e.last j (omega (arith, l, h, eqb-false j (end - 1) there)) k) k);
-    }
-  where
-    -- What is written is 1, and what was 1 stays so.
-    stays : (run : List ℕ) (k j : ℕ) → j < length run → get_or run j 0 ≡ 1 → get_or (set run k 1) j 0 ≡ 1
-    stays run k j inside was =
-        split (eqb j k)
-        (λ here. let same : j ≡ k = eqb-true j k here in rw same (get_or-set_same run k 1 0 (omega (arith, inside, same))))
-        (λ there. get_or-set_other run k j 1 0 (eqb-false j k there) ∙ was)
-
-    within : {j : ℕ} → j < n → j < length (set greys i 1)
-    within inside = omega (arith, inside, length-set greys i 1, e.long)
-
-    new_first : (j : ℕ) → j ≡ i → j < n → get_or (set (set greys i 1) (end - 1) 1) j 0 ≡ 1
-    new_first j same inside = stays (set greys i 1) (end - 1) j (within inside) (rw same (get_or-set_same greys i 1 0 (omega (arith, inside, same, e.long))))
-
-    new_last : (j : ℕ) → j ≡ end - 1 → j < n → get_or (set (set greys i 1) (end - 1) 1) j 0 ≡ 1
-    new_last j same inside = rw same (get_or-set_same (set greys i 1) (end - 1) 1 0 (omega (arith, within inside, same)))
-
-    old : (j : ℕ) → get_or greys j 0 ≡ 1 → j < n → get_or (set (set greys i 1) (end - 1) 1) j 0 ≡ 1
-    old j was inside = stays (set greys i 1) (end - 1) j (within inside) (stays greys i j (omega (arith, inside, e.long)) was)
+  pub last : (j : ℕ) → n ≤ j + i → j < n → get_or greys j 0 ≡ 1
 
 -- Where they meet, all are 1.
-pub ends_all : {n i end : ℕ} {greys : List ℕ} → Ends n i end greys → end ≤ i → greys ≡ row (λ _. 1) n
-ends_all {n} {i} {end} {greys} e h =
+pub ends_all : {n i : ℕ} {greys : List ℕ} → Ends n i greys → n ≤ i + i → greys ≡ row (λ _. 1) n
+ends_all {n} {i} {greys} e h =
     ext_get_or 0 greys (row (λ _. 1) n) (e.long ∙ sym (row_length (λ _. 1) n))
-    (λ j l. split (ltb j i) (λ low. e.first j (ltb-true j i low)) (λ high. e.last j (omega (arith, h, ltb-false j i high)) (omega (arith, l, e.long))) ∙ sym (row_at (λ _. 1) n j 0 (omega (arith, l, e.long))))
+    (λ j l.
+    split (ltb j i) (λ low. e.first j (ltb-true j i low)) (λ high. e.last j (omega (arith, h, ltb-false j i high)) (omega (arith, l, e.long)))
+    ∙ sym (row_at (λ _. 1) n j 0 (omega (arith, l, e.long))))

@@ -14,8 +14,8 @@ use Rattle.greys.specs.Greys.{grey_of, Below}
 use Rattle.section_7.specs.declared.Groups.{Groups}
 use Rattle.section_7.specs.Packing.{values_before, bits_before}
 use Rattle.values_group.specs.declared.Latest.{Latest}
-use Rattle.values_group.specs.declared.Worked.TheVariants as Worked
-use Rattle.values_group.specs.Group.{worked_by, is_kept, GroupKept, GroupGoes, integers_of}
+use Rattle.std.specs.Prelude.{Some, is_some}
+use Rattle.values_group.specs.Group.{worked_by, GroupKept, GroupGoes, integers_of}
 use Rattle.values_integers.specs.Integers.{integer}
 use Rattle.values_complex.specs.declared.Start.{Start}
 use Rattle.values_complex.specs.Complex.{start_of, group_at, values_in, size_in, worked_in, AllInRange, Sound}
@@ -50,7 +50,7 @@ module _ (run : List ℕ) (g : Groups) where
       pub within : i ≤ g.grouping.groups
       pub starts : start ≡ start_of run g i
       pub counted : done ≡ worked_before run g i + 2
-      pub kept : worked_in run g (worked_before run g i) ≡ Worked.Kept latest.x latest.before
+      pub kept : worked_in run g (worked_before run g i) ≡ Some latest
       pub greyed : greys ≡ filled grey 2 (done - 2) lent
 
     -- The run keeps its length.
@@ -86,13 +86,13 @@ module _ (run : List ℕ) (g : Groups) where
           -- Its integers are the field's next ones, all in their range, and no larger than the scale's largest where the field's are not.
           next_integer : (k : ℕ) → k < (group_at run g i).count → integers_of run (group_at run g i) latest k ≡ size_in run g (done + k)
           next_integer k l =
-              group_field run g sound all i latest.x latest.before h p.kept k l ∙ ap (λ (n : ℕ). size_in run g (n + k)) (sym p.counted)
+              group_field run g sound all i latest h p.kept k l ∙ ap (λ (n : ℕ). size_in run g (n + k)) (sym p.counted)
 
-          next_worked : worked_by run (group_at run g i) (Worked.Kept latest.x latest.before) (group_at run g i).count ≡ worked_in run g (worked_before run g (i + 1))
+          next_worked : worked_by run (group_at run g i) (Some latest) (group_at run g i).count ≡ worked_in run g (worked_before run g (i + 1))
           next_worked = ap (λ w. worked_by run (group_at run g i) w (group_at run g i).count) (sym p.kept) ∙ group_passed run g i h
 
           pub next_kept : GroupKept run (group_at run g i) latest (group_at run g i).count
-          next_kept = ap is_kept next_worked ∙ range_kept run g sound all (worked_before run g (i + 1)) (next_start run g sound i h)
+          next_kept = ap is_some next_worked ∙ range_kept run g sound all (worked_before run g (i + 1)) (next_start run g sound i h)
 
           pub next_below : Below scale (size_in run g) (values_in run g) → Below scale (integers_of run (group_at run g i) latest) (group_at run g i).count
           next_below below k l = rw (next_integer k (omega (arith, l))) (below (done + k) (omega (arith, l, next_room)))

@@ -1,171 +1,166 @@
--- One turn of a loop over a group's packed numbers: where the next of them lie, and what they give.
-use Rattle.std.proofs.Common.{◌≡◌, ℕ, suc, ◌+◌, ◌*◌, ◌/◌, ◌%◌, ◌^◌, ◌<◌, ◌≤◌, true, ltb, List, length, set, sym, refl, ap, ◌∙◌, ap₂, mul-le-mul_right, add-mul, one-mul, add-one, arith, ltb-false}
+-- One turn of a loop over a group's packed numbers: where the reader stands, and what the next of them give.
+use Rattle.std.proofs.Common.{◌≡◌, ℕ, suc, ◌+◌, ◌*◌, ◌%◌, ◌<◌, ◌≤◌, true, ltb, List, get_or, sym, refl, ap, ◌∙◌, ap₂, add-mul, one-mul, add-one, add-zero, arith, ltb-false}
+use Rattle.std.specs.Prelude.{Option, Some, None, is_some}
 use lib.Bits.{bit_or}
 use Rattle.octets.proofs.Cases.{apart, split}
 use Rattle.bits.specs.Bits.{bits_at}
-use Rattle.bits.specs.Fours.{Foured}
-use Rattle.bits_reader.specs.Reading.{FourTaken}
-use Rattle.bits_reader.specs.declared.TakenFour.{TakenFour}
-use Rattle.laws_rows.specs.Rows.{filled}
-use Rattle.laws_rows.proofs.Laws.{filled_length, filled_more, filled_same}
+use Rattle.bits.specs.Fours.{numbers_at}
+use Rattle.bits.proofs.Fours.{number_of_several}
+use Rattle.bits_reader.specs.declared.BitReader.{BitReader}
 use Rattle.values_group.specs.declared.Group as declared
-use Rattle.values_group.specs.declared.Worked as declaredWorked
-use Rattle.values_group.specs.declared.Worked.TheVariants as Worked
-use Rattle.values_group.specs.Group.{most_x, worked_by, is_kept, last_of, integer_from, Limits, Gains, wrapped, tested}
+use Rattle.values_group.specs.declared.Latest.{Latest}
+use Rattle.values_group.specs.Group.{most_x, worked_by, last_of, integers_of, Limits, GroupKept, Gains, wrapped, followed_by, Follows}
 use Rattle.values_group.proofs.Steps.{out_later}
-use Rattle.values_group.proofs.Wrapped.{Course, course_of, tested_by, integer_by, unless_seen, one_seen, worked_tested}
+use Rattle.values_group.proofs.Wrapped.{Course, course_of, number_by, tested, tested_by, integer_by, unless_seen, tested_in, tested_out, one_seen, worked_tested, tested_kept}
 
--- Behind k numbers this is kept, and the next number lies at bit `at`.
-pub record Reached (s : Course) (k at : ℕ) (w : declaredWorked.Worked) : Type 0 where
-  pub place : at ≡ s.from + k * s.width
+-- The reader stands at the packed number k.
+pub record Stands (s : Course) (k : ℕ) (reader : BitReader) : Type 0 where
+  pub run : reader.run.now ≡ s.run
+  pub place : reader.at.0 ≡ s.from + k * s.width
+
+-- A reader that starts where the numbers do stands at the first.
+pub stands_first : (s : Course) {reader : BitReader} → reader.run.now ≡ s.run → reader.at.0 ≡ s.from → Stands s 0 reader
+stands_first s run place = record { run = run; place = omega (arith, place) }
+
+-- It reads that number, and behind k numbers this is kept.
+pub record Packed (s : Course) (k packed : ℕ) : Type 0 where
+  pub same : packed ≡ number_by s k
+
+pub record Reached (s : Course) (k : ℕ) (w : Option Latest) : Type 0 where
   pub kept : tested_by s k ≡ w
 
--- At the start nothing is read.
-pub none_reached : (s : Course) → Reached s 0 s.from (Worked.Kept s.latest s.earlier)
+pub none_reached : (s : Course) → Reached s 0 (Some s.latest)
 unfolding tested_by
-none_reached s = record { place = omega arith; kept = refl }
-
--- The block has the integers that were worked out, from element `start` on: element j has that of number `numbered j`.
-pub record Held (s : Course) (numbered : ℕ → ℕ) (start k at x before : ℕ) (lent block : List ℕ) : Type 0 where
-  pub reached : Reached s k at (Worked.Kept x before)
-  pub elements : block ≡ filled (λ j. integer_by s (numbered j)) start k lent
-
-pub none_held : (s : Course) (numbered : ℕ → ℕ) (start : ℕ) (lent : List ℕ) → Held s numbered start 0 s.from s.latest s.earlier lent lent
-unfolding filled
-none_held s numbered start lent = record { reached = none_reached s; elements = refl }
+none_reached s = record { kept = refl }
 
 -- An integer in its range has 31 bits, and one that is kept is in its range.
 own_remainder : {x : ℕ} → x ≤ most_x → x % 2147483648 ≡ x
 own_remainder h = omega arith
 
-tested_tells : (packed gain x before : ℕ) → is_kept (tested packed gain (Worked.Kept x before)) ≡ true →
-    (wrapped packed gain x before ≤ most_x) × (tested packed gain (Worked.Kept x before) ≡ Worked.Kept (wrapped packed gain x before) x)
-tested_tells packed gain x before e =
-    split (ltb most_x (wrapped packed gain x before)) (λ out. apart (cc (rw out at e)))
-    (λ inside. (ltb-false most_x (wrapped packed gain x before) inside, rw inside refl))
-
--- Of four numbers the last two stand behind the second.
-module _ {run : List ℕ} {at width : ℕ} {taken : TakenFour} (four : FourTaken run at width taken) where
-  third : taken.third ≡ bits_at run (at + width + width) width
-  third = let place : at + 2 * width ≡ at + width + width = omega arith in four.third ∙ ap (λ (i : ℕ). bits_at run i width) place
-
-  fourth : taken.fourth ≡ bits_at run (at + width + width + width) width
-  fourth = let place : at + 3 * width ≡ at + width + width + width = omega arith in four.fourth ∙ ap (λ (i : ℕ). bits_at run i width) place
+tested_tells : (packed gain : ℕ) (latest : Latest) → is_some (tested packed gain (Some latest)) ≡ true →
+    (wrapped packed gain latest ≤ most_x) × (tested packed gain (Some latest) ≡ Some (followed_by (wrapped packed gain latest) latest))
+tested_tells packed gain latest e =
+    split (ltb most_x (wrapped packed gain latest)) (λ out. apart (cc (rw out at e)))
+    (λ inside. (ltb-false most_x (wrapped packed gain latest) inside, rw inside refl))
 
 module _ {s : Course} where
-  -- The same, said in other words.
-  pub reached_as : {k j at there : ℕ} {w v : declaredWorked.Worked} → Reached s k at w → k ≡ j → there ≡ at → w ≡ v → Reached s j there v
-  reached_as reached counted place same = record {
-    place = place ∙ reached.place ∙ ap (λ (n : ℕ). s.from + n * s.width) counted;
-    kept = ap (tested_by s) (sym counted) ∙ reached.kept ∙ same;
+  -- The reader goes on, by some numbers.
+  pub stands_on : {k : ℕ} {reader after : BitReader} → Stands s k reader → after.run ≡ reader.run → (n : ℕ) {j : ℕ} → after.at.0 ≡ reader.at.0 + n * s.width → k + n ≡ j → Stands s j after
+  stands_on {k} stands same n place counted = record {
+    run = ap (λ r. r.now) same ∙ stands.run;
+    place = omega (arith, place, stands.place, add-mul k n s.width, ap (λ (m : ℕ). m * s.width) counted);
   }
 
-  pub held_as : {numbered : ℕ → ℕ} {start k j at there x before : ℕ} {lent block : List ℕ} →
-      Held s numbered start k at x before lent block → k ≡ j → there ≡ at → Held s numbered start j there x before lent block
-  held_as {numbered} {start} {lent = lent} held counted place = record {
-    reached = reached_as held.reached counted place refl;
-    elements = held.elements ∙ ap (λ (n : ℕ). filled (λ j. integer_by s (numbered j)) start n lent) counted;
-  }
+  pub stands_behind : {k : ℕ} {reader after : BitReader} → Stands s k reader → after.run ≡ reader.run → after.at.0 ≡ reader.at.0 + s.width → Stands s (k + 1) after
+  stands_behind stands same place = stands_on stands same 1 (omega (arith, place, one-mul s.width)) refl
 
-  -- The block keeps its length.
-  pub held_length : {numbered : ℕ → ℕ} {start k at x before : ℕ} {lent block : List ℕ} →
-      Held s numbered start k at x before lent block → length block ≡ length lent
-  held_length {numbered} {start} {k} {lent = lent} held = ap length held.elements ∙ filled_length (λ j. integer_by s (numbered j)) start k lent
+  -- The number that it stands at, and four of them.
+  number_at : {k : ℕ} {reader : BitReader} → Stands s k reader → (n : ℕ) {at : ℕ} → at ≡ reader.at.0 + n * s.width →
+      bits_at reader.run.now at s.width ≡ number_by s (k + n)
+  number_at {k} stands n {at} there =
+      let place : at ≡ s.from + (k + n) * s.width = omega (arith, there, stands.place, add-mul k n s.width) in
+      ap₂ (λ (run : List ℕ) (i : ℕ). bits_at run i s.width) stands.run place
 
-  -- One number more.
-  pub one_reached : {k at packed : ℕ} {w : declaredWorked.Worked} → Reached s k at w → packed ≡ bits_at s.run at s.width →
-      Reached s (k + 1) (at + s.width) (tested packed s.gain w)
+  pub packed_one : {k : ℕ} {reader : BitReader} {packed : ℕ} → Stands s k reader → packed ≡ bits_at reader.run.now reader.at.0 s.width → Packed s k packed
+  packed_one {k} stands read = record { same = read ∙ number_at stands 0 (omega arith) ∙ ap (number_by s) (add-zero k) }
+
+  pub packed_four : {k : ℕ} {reader : BitReader} (numbers : List ℕ) → Stands s k reader → numbers ≡ numbers_at reader.run.now reader.at.0 s.width 4 →
+      Packed s k (get_or numbers 0 0) × Packed s (k + 1) (get_or numbers 1 0) × Packed s (k + 1 + 1) (get_or numbers 2 0) × Packed s (k + 1 + 1 + 1) (get_or numbers 3 0)
+  packed_four {k} {reader} numbers stands four =
+      (number 0 (omega arith) (omega arith), number 1 (omega arith) refl, number 2 (omega arith) (omega arith), number 3 (omega arith) (omega arith))
+    where
+      number : (n : ℕ) → n < 4 → {j : ℕ} → k + n ≡ j → Packed s j (get_or numbers n 0)
+      number n h counted = record {
+        same = ap (λ (all : List ℕ). get_or all n 0) four
+            ∙ number_of_several reader.run.now reader.at.0 s.width 4 n h
+            ∙ number_at stands n refl
+            ∙ ap (number_by s) counted;
+      }
+
+  -- One number more: its integer is judged, known to be in its range, or seen with those before it.
+  pub one_tested : {k packed : ℕ} {w : Option Latest} → Reached s k w → Packed s k packed → Reached s (k + 1) (tested packed s.gain w)
   unfolding tested_by
-  one_reached {k} reached read =
-      let there = read ∙ ap (λ (i : ℕ). bits_at s.run i s.width) reached.place in
-      record {
-        place = omega (arith, reached.place, add-mul k 1 s.width, one-mul s.width);
-        kept = ap (tested_by s) (add-one k) ∙ ap₂ (λ (n : ℕ) (v : declaredWorked.Worked). tested n s.gain v) (sym there) reached.kept;
-      }
+  one_tested {k} reached read = record {
+    kept = ap (tested_by s) (add-one k) ∙ ap₂ (λ (n : ℕ) (v : Option Latest). tested n s.gain v) (sym read.same) reached.kept;
+  }
 
-  -- One element more, of an integer that is known to be kept.
-  pub one_held : {numbered : ℕ → ℕ} {start k at x before : ℕ} {lent block : List ℕ} (i : ℕ) {packed r element : ℕ} →
-      Held s numbered start k at x before lent block → i ≡ start + k → numbered i ≡ k → packed ≡ bits_at s.run at s.width →
-      r ≡ wrapped packed s.gain x before → is_kept (tested_by s (k + 1)) ≡ true → element ≡ r % 2147483648 →
-      Held s numbered start (k + 1) (at + s.width) r x lent (set block i element)
-  one_held {numbered} {start} {k} {at} {x} {before} {lent} i {packed} {r} held place counted read worked kept same =
-      let next = one_reached held.reached read in
-      let told = tested_tells packed s.gain x before (ap is_kept (sym next.kept) ∙ kept) in
-      let reached = reached_as next refl refl (told.1 ∙ ap (λ (n : ℕ). Worked.Kept n x) (sym worked)) in
-      let f : ℕ → ℕ = λ j. integer_by s (numbered j) in
-      let integer : f i ≡ r = ap (integer_by s) counted ∙ ap (λ (n : ℕ). last_of (tested_by s n)) (sym (add-one k)) ∙ ap last_of reached.kept in
-      record {
-        reached = reached;
-        elements = ap₂ (λ (b : List ℕ) (e : ℕ). set b i e) held.elements (same ∙ own_remainder (rw worked told.0) ∙ sym integer)
-            ∙ ap (λ (j : ℕ). set (filled f start k lent) j (f j)) place
-            ∙ sym (filled_more f start k lent);
-      }
+  pub one_inside : {k packed x : ℕ} {latest after : Latest} → Reached s k (Some latest) → Packed s k packed → Follows packed s.gain latest x after → x ≤ most_x →
+      Reached s (k + 1) (Some after)
+  one_inside {packed = packed} {latest = latest} reached read follows fits = record {
+    kept = (one_tested reached read).kept ∙ sym (tested_in packed s.gain latest follows.value fits) ∙ ap Some (sym follows.last);
+  }
 
-  module _ {at : ℕ} {taken : TakenFour} (four : FourTaken s.run at s.width taken) where
-    -- Four numbers more, whose integers are seen together.
-    pub four_seen : (seen x before : ℕ) {k one two three last : ℕ} → Reached s k at (unless_seen seen x before) →
-        one ≡ wrapped taken.first s.gain x before → two ≡ wrapped taken.second s.gain one x →
-        three ≡ wrapped taken.third s.gain two one → last ≡ wrapped taken.fourth s.gain three two →
-        Reached s (k + 4) taken.next.0 (unless_seen (bit_or (bit_or (bit_or (bit_or seen one) two) three) last) last three)
-    four_seen seen x before {k} {one} {two} {three} {last} reached w1 w2 w3 w4 =
-        let r1 = reached_as (one_reached reached four.first) refl refl (sym (one_seen taken.first s.gain seen x before w1)) in
-        let r2 = reached_as (one_reached r1 four.second) refl refl (sym (one_seen taken.second s.gain (bit_or seen one) one x w2)) in
-        let r3 = reached_as (one_reached r2 (third four)) refl refl (sym (one_seen taken.third s.gain (bit_or (bit_or seen one) two) two one w3)) in
-        let r4 = reached_as (one_reached r3 (fourth four)) refl refl (sym (one_seen taken.fourth s.gain (bit_or (bit_or (bit_or seen one) two) three) three two w4)) in
-        reached_as r4 (omega arith) (omega (arith, four.next)) refl
+  pub one_outside : {k packed x : ℕ} {latest after : Latest} → Reached s k (Some latest) → Packed s k packed → Follows packed s.gain latest x after → most_x < x →
+      Reached s (k + 1) None
+  one_outside {packed = packed} {latest = latest} reached read follows out = record {
+    kept = (one_tested reached read).kept ∙ sym (tested_out packed s.gain latest follows.value out);
+  }
 
-    -- Four elements more, from the start of the block on.
-    pub four_held : {x before : ℕ} {lent block : List ℕ} (i : ℕ) {one two three last e1 e2 e3 e4 : ℕ} → Held s (λ j. j) 0 i at x before lent block →
-        ((k : ℕ) → k ≤ i + 4 → is_kept (tested_by s k) ≡ true) →
-        one ≡ wrapped taken.first s.gain x before → two ≡ wrapped taken.second s.gain one x →
-        three ≡ wrapped taken.third s.gain two one → last ≡ wrapped taken.fourth s.gain three two →
-        e1 ≡ one % 2147483648 → e2 ≡ two % 2147483648 → e3 ≡ three % 2147483648 → e4 ≡ last % 2147483648 →
-        Held s (λ j. j) 0 (i + 4) taken.next.0 last three lent (set (set (set (set block i e1) (i + 1) e2) (i + 2) e3) (i + 3) e4)
-    four_held i held kept w1 w2 w3 w4 s1 s2 s3 s4 =
-        let h1 = one_held i held (omega arith) refl four.first w1 (kept (i + 1) (omega arith)) s1 in
-        let h2 = one_held (i + 1) h1 (omega arith) refl four.second w2 (kept (i + 1 + 1) (omega arith)) s2 in
-        let h3 = one_held (i + 2) h2 (omega arith) (omega arith) (third four) w3 (kept (i + 1 + 1 + 1) (omega arith)) s3 in
-        let h4 = one_held (i + 3) h3 (omega arith) (omega arith) (fourth four) w4 (kept (i + 1 + 1 + 1 + 1) (omega arith)) s4 in
-        held_as h4 (omega arith) (omega (arith, four.next))
+  pub one_seen_more : (seen : ℕ) {k packed x : ℕ} {latest after : Latest} → Reached s k (unless_seen seen latest) → Packed s k packed → Follows packed s.gain latest x after →
+      Reached s (k + 1) (unless_seen (bit_or seen x) after)
+  one_seen_more seen {packed = packed} {x} {latest} reached read follows = record {
+    kept = (one_tested reached read).kept ∙ sym (one_seen packed s.gain seen latest follows.value) ∙ ap (unless_seen (bit_or seen x)) (sym follows.last);
+  }
 
-module _ (run : List ℕ) (g : declared.Group) (gain : ℕ) {latest earlier : ℕ}
-    (sizes : Limits g latest earlier) (gains : Gains gain g.base g.lowered) where
-  -- What is kept behind the last number is what the group keeps.
-  pub reached_worked : {k at : ℕ} {w : declaredWorked.Worked} → Reached (course_of run g gain latest earlier) k at w → {all : ℕ} → k ≡ all →
-      w ≡ worked_by run g (Worked.Kept latest earlier) all
-  reached_worked {k} reached same =
-      sym reached.kept ∙ sym (worked_tested run g gain sizes gains k) ∙ ap (worked_by run g (Worked.Kept latest earlier)) same
+  -- One number more, where its integer is known to be kept: that is the integer, and has 31 bits.
+  pub one_kept : {k packed x : ℕ} {latest after : Latest} → Reached s k (Some latest) → Packed s k packed → Follows packed s.gain latest x after →
+      is_some (tested_by s (k + 1)) ≡ true → Reached s (k + 1) (Some after) × (x % 2147483648 ≡ integer_by s k)
+  one_kept {k} {packed} {x} {latest} {after} reached read follows known =
+      let told = tested_tells packed s.gain latest (ap is_some (sym (one_tested reached read).kept) ∙ known) in
+      let fits : x ≤ most_x = omega (arith, follows.value, told.0) in
+      let next = one_inside reached read follows fits in
+      (next, own_remainder fits ∙ ap (λ (l : Latest). l.x) (sym follows.last) ∙ ap last_of (sym next.kept) ∙ ap (λ (n : ℕ). last_of (tested_by s n)) (add-one k))
 
-  -- Behind an integer out of its range nothing is kept.
-  pub reached_out : {k at : ℕ} {w : declaredWorked.Worked} → Reached (course_of run g gain latest earlier) k at w → w ≡ Worked.Out →
-      {all : ℕ} → k ≤ all → Worked.Out ≡ worked_by run g (Worked.Kept latest earlier) all
-  reached_out reached out {all} h = out_later run g (Worked.Kept latest earlier) all h (sym (reached_worked reached refl) ∙ out)
+  -- Four numbers more, whose integers are seen together.
+  pub four_seen_more : (seen : ℕ) {k one two three last : ℕ} {latest l1 l2 l3 after : Latest} {reader : BitReader} (numbers : List ℕ) → Stands s k reader →
+      numbers ≡ numbers_at reader.run.now reader.at.0 s.width 4 → Reached s k (unless_seen seen latest) →
+      Follows (get_or numbers 0 0) s.gain latest one l1 → Follows (get_or numbers 1 0) s.gain l1 two l2 →
+      Follows (get_or numbers 2 0) s.gain l2 three l3 → Follows (get_or numbers 3 0) s.gain l3 last after →
+      Reached s (k + 1 + 1 + 1 + 1) (unless_seen (bit_or (bit_or (bit_or (bit_or seen one) two) three) last) after)
+  four_seen_more seen {one = one} {two} {three} numbers stands four reached f1 f2 f3 f4 =
+      let read = packed_four numbers stands four in
+      let three_seen = one_seen_more (bit_or (bit_or seen one) two) (one_seen_more (bit_or seen one) (one_seen_more seen reached read.0 f1) read.1 f2) read.2 f3 in
+      one_seen_more (bit_or (bit_or (bit_or seen one) two) three) three_seen read.3 f4
 
-  -- The block has the group's integers.
-  pub held_integers : {numbered : ℕ → ℕ} {start k at x before : ℕ} {lent block : List ℕ} →
-      Held (course_of run g gain latest earlier) numbered start k at x before lent block → {all : ℕ} → k ≡ all →
-      block ≡ filled (λ j. integer_from run g latest earlier (numbered j)) start all lent
-  held_integers {numbered} {start} {lent = lent} held {all} same =
-      let f : ℕ → ℕ = λ j. integer_by (course_of run g gain latest earlier) (numbered j) in
-      held.elements
-      ∙ ap (λ (n : ℕ). filled f start n lent) same
-      ∙ filled_same f (λ j. integer_from run g latest earlier (numbered j)) start all lent
-      (λ j _ _. sym (ap last_of (worked_tested run g gain sizes gains (suc (numbered j)))))
+  -- The same, counted in another way.
+  pub reached_as : {k j : ℕ} {w : Option Latest} → Reached s k w → k ≡ j → Reached s j w
+  reached_as reached counted = record { kept = ap (tested_by s) (sym counted) ∙ reached.kept }
 
--- The next number, or the next four, lie in the section, and within the numbers that the machine counts.
-module _ {run : List ℕ} {g : declared.Group} {x before gain latest earlier k at : ℕ} {w : declaredWorked.Worked}
-    (sizes : Limits g x before) (reached : Reached (course_of run g gain latest earlier) k at w) where
-  pub one_there : k < g.count → (at + g.width < 2 ^ 64) × (g.width ≤ 32)
-  one_there more =
-      let few : k + 1 ≤ g.count = omega (arith, more) in
-      let inside = mul-le-mul_right g.width few in
-      (omega (arith, reached.place, sizes.of_end, add-mul k 1 g.width, one-mul g.width, inside), omega (arith, sizes.of_width))
+-- What is kept behind the last number is what the group keeps, and behind an integer out of its range nothing is.
+module _ {run : List ℕ} {g : declared.Group} {gain : ℕ} {latest : Latest} {k : ℕ} {w : Option Latest}
+    (sizes : Limits g latest) (gains : Gains gain g.base g.lowered) (reached : Reached (course_of run g gain latest) k w) where
+  pub reached_worked : {all : ℕ} → k ≡ all → w ≡ worked_by run g (Some latest) all
+  reached_worked same =
+      sym reached.kept ∙ sym (worked_tested run g gain sizes gains k) ∙ ap (worked_by run g (Some latest)) same
 
-  pub four_there : {octets count fours : ℕ} → Foured octets g.from.0 g.width count fours → count ≤ g.count → k + 4 ≤ 4 * fours →
-      ((at + 2 * g.width) / 8 + 8 ≤ octets) × (g.width ≤ 28) × (at + 4 * g.width < 2 ^ 64)
-  four_there {fours = fours} foured few more =
-      let some : 1 ≤ fours = omega (arith, more) in
-      let all : 4 * fours ≤ g.count = omega (arith, foured.few, few) in
-      let inside = mul-le-mul_right g.width more in
-      let here : at + 4 * g.width ≤ g.from.0 + 4 * fours * g.width = omega (arith, reached.place, add-mul k 4 g.width, inside) in
-      (omega (arith, here, foured.inside some), foured.narrow some, omega (arith, here, sizes.of_end, mul-le-mul_right g.width all))
+  pub reached_out : w ≡ None → {all : ℕ} → k ≤ all → None ≡ worked_by run g (Some latest) all
+  reached_out out {all} h = out_later run g (Some latest) all h (sym (reached_worked refl) ∙ out)
+
+-- One number more of a group whose integers are known to be kept, and four more: the last 31 bits of each are its integer.
+module _ (run : List ℕ) (g : declared.Group) (gain : ℕ) (latest : Latest) (all : ℕ)
+    (sizes : Limits g latest) (gains : Gains gain g.base g.lowered) (kept : GroupKept run g latest all) where
+  abbrev s : Course
+  s = course_of run g gain latest
+
+  pub one_put : {k packed x : ℕ} {last after : Latest} → Reached s k (Some last) → Packed s k packed → Follows packed gain last x after → k < all →
+      Reached s (k + 1) (Some after) × (x % 2147483648 ≡ integers_of run g latest k)
+  one_put {k} reached read follows more =
+      let told = one_kept reached read follows (tested_kept run g gain sizes gains kept (k + 1) (omega arith)) in
+      (told.0, told.1 ∙ sym (ap last_of (worked_tested run g gain sizes gains (suc k))))
+
+  pub four_put : {k x1 x2 x3 x4 : ℕ} {last l1 l2 l3 after : Latest} {reader : BitReader} (numbers : List ℕ) → Stands s k reader →
+      numbers ≡ numbers_at reader.run.now reader.at.0 g.width 4 → Reached s k (Some last) → k + 4 ≤ all →
+      Follows (get_or numbers 0 0) gain last x1 l1 → Follows (get_or numbers 1 0) gain l1 x2 l2 → Follows (get_or numbers 2 0) gain l2 x3 l3 →
+      Follows (get_or numbers 3 0) gain l3 x4 after →
+      Reached s (k + 4) (Some after) × (x1 % 2147483648 ≡ integers_of run g latest k) × (x2 % 2147483648 ≡ integers_of run g latest (k + 1))
+      × (x3 % 2147483648 ≡ integers_of run g latest (k + 2)) × (x4 % 2147483648 ≡ integers_of run g latest (k + 3))
+  four_put {k} numbers stands four reached more f1 f2 f3 f4 =
+      let read = packed_four {s = s} numbers stands four in
+      let p1 = one_put reached read.0 f1 (omega arith) in
+      let p2 = one_put p1.0 read.1 f2 (omega arith) in
+      let p3 = one_put p2.0 read.2 f3 (omega arith) in
+      let p4 = one_put p3.0 read.3 f4 (omega arith) in
+      let at = λ (j : ℕ). integers_of run g latest j in
+      let two : k + 1 + 1 ≡ k + 2 = omega arith in
+      let three : k + 1 + 1 + 1 ≡ k + 3 = omega arith in
+      (reached_as p4.0 (omega arith), p1.1, p2.1, p3.1 ∙ ap at two, p4.1 ∙ ap at three)

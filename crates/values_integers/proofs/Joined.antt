@@ -12,8 +12,8 @@ use Rattle.octets.specs.Numbers.{whole, whole_of}
 use Rattle.octets.proofs.Cases.{apart, split, both}
 use Rattle.octets.proofs.Whole.{minus_less, minus_more}
 use Rattle.doubles.specs.Doubles.{is_in_range}
-use Rattle.values_group.specs.declared.Worked as declared
-use Rattle.values_group.specs.declared.Worked.TheVariants as Worked
+use Rattle.std.specs.Prelude.{Option, Some, None}
+use Rattle.values_group.specs.declared.Latest.{Latest}
 use Rattle.values_group.specs.Group.{most_x, next}
 use Rattle.section_7_layout.specs.declared.Differencing.{Differencing}
 use Rattle.values_integers.specs.Integers.{integer}
@@ -51,97 +51,98 @@ above : (up down : ℕ) → down ≤ up → most_x < up - down → is_in_range (
 above up down h k = ap is_in_range (minus_less up down h) ∙ lt-leb (up - down) most_x k
 
 -- What is kept is known by its two integers, and nothing is both kept and out.
-same_kept : {x y b c : ℕ} → Worked.Kept x b ≡ Worked.Kept y c → (x ≡ y) × (b ≡ c)
-same_kept e = (cc, cc)
+same_kept : {kept latest : Latest} → Some kept ≡ Some latest → kept ≡ latest
+same_kept e = cc
 
-never : {A : Type 0} {x b : ℕ} → Worked.Out ≡ Worked.Kept x b → A
-never {A} {x} {b} e = apart cc
+never : {A : Type 0} {latest : Latest} → None ≡ Some latest → A
+never {A} {latest} e = apart cc
 
-never_out : {A : Type 0} {x b : ℕ} → Worked.Kept x b ≡ Worked.Out → A
-never_out {A} {x} {b} e = apart cc
+never_out : {A : Type 0} {latest : Latest} → Some latest ≡ None → A
+never_out {A} {latest} e = apart cc
 
 module _ (d : Differencing) (stored : ℕ → ℕ) where
   -- The two integers that are kept behind m more.
-  pub record Kept (m x b : ℕ) : Type 0 where
-    pub last : integer d stored (suc m) ≡ pos x
-    pub before : integer d stored m ≡ pos b
-    pub last_fits : x ≤ most_x
-    pub before_fits : b ≤ most_x
+  pub record Kept (m : ℕ) (latest : Latest) : Type 0 where
+    pub last : integer d stored (suc m) ≡ pos latest.x
+    pub before : integer d stored m ≡ pos latest.before
+    pub last_fits : latest.x ≤ most_x
+    pub before_fits : latest.before ≤ most_x
 
-  -- One more integer by the recurrence.
-  more : {m x b : ℕ} → Kept m x b → integer d stored (suc (suc m)) ≡ pos (stored (suc (suc m)) + raised_by d.zmin + 2 * x) -ℤ pos (b + lowered_by d.zmin)
+  -- One more integer by the recurrence: `up` less `down`.
+  abbrev up : ℕ → Latest → ℕ
+  up m latest = stored (suc (suc m)) + raised_by d.zmin + 2 * latest.x
+
+  abbrev down : Latest → ℕ
+  down latest = latest.before + lowered_by d.zmin
+
+  abbrev following : ℕ → Option Latest → Option Latest
+  following m w = next (stored (suc (suc m)) + raised_by d.zmin) (lowered_by d.zmin) w
+
+  more : {m : ℕ} {latest : Latest} → Kept m latest → integer d stored (suc (suc m)) ≡ pos (up m latest) -ℤ pos (down latest)
   unfolding integer
-  more {m} {x} {b} k =
+  more {m} {latest} k =
       ap₂ (λ (last before : ℤ). pos (stored (suc (suc m))) +ℤ whole d.zmin +ℤ pos 2 *ℤ last -ℤ before) k.last k.before
-      ∙ difference d.zmin (stored (suc (suc m))) x b
+      ∙ difference d.zmin (stored (suc (suc m))) latest.x latest.before
 
-  judged_kept : {m y c x b : ℕ} → Kept m y c → next (stored (suc (suc m)) + raised_by d.zmin) (lowered_by d.zmin) (Worked.Kept y c) ≡ Worked.Kept x b → Kept (suc m) x b
-  judged_kept {m} {y} {c} {x} {b} k e =
-      split (ltb up down) (λ low. never (rw low at e))
+  judged_kept : {m : ℕ} {latest after : Latest} → Kept m latest → following m (Some latest) ≡ Some after → Kept (suc m) after
+  judged_kept {m} {latest} {after} k e =
+      split (ltb (up m latest) (down latest)) (λ low. never (rw low at e))
       (λ high.
-      split (ltb most_x (up - down)) (λ large. never (rw (high, large) at e))
+      split (ltb most_x (up m latest - down latest)) (λ large. never (rw (high, large) at e))
       (λ fits.
-      let same = same_kept (rw (high, fits) at e) in
-      record {
-        last = more k ∙ minus_less up down (ltb-false up down high) ∙ ap pos same.0;
-        before = k.last ∙ ap pos same.1;
-        last_fits = subst (λ (n : ℕ). n ≤ most_x) same.0 (ltb-false most_x (up - down) fits);
-        before_fits = subst (λ (n : ℕ). n ≤ most_x) same.1 k.last_fits;
-      }))
-    where
-      up : ℕ
-      up = stored (suc (suc m)) + raised_by d.zmin + 2 * y
-
-      down : ℕ
-      down = c + lowered_by d.zmin
+      subst (Kept (suc m)) (same_kept (rw (high, fits) at e)) (record {
+        last = more k ∙ minus_less (up m latest) (down latest) (ltb-false (up m latest) (down latest) high);
+        before = k.last;
+        last_fits = ltb-false most_x (up m latest - down latest) fits;
+        before_fits = k.last_fits;
+      })))
 
   -- What is kept are the standard's integers, and they are in their range.
-  pub worked_sound : (m : ℕ) {x b : ℕ} → worked d stored m ≡ Worked.Kept x b → Kept m x b
+  pub worked_sound : (m : ℕ) {latest : Latest} → worked d stored m ≡ Some latest → Kept m latest
   unfolding worked integer
-  worked_sound zero {x} {b} e =
+  worked_sound zero e =
       split (leb d.first most_x && leb d.second most_x)
       (λ fits.
-      let same = same_kept (rw fits at e) in
       let tests = both (leb d.first most_x) (leb d.second most_x) fits in
-      record {
-        last = ap pos same.0;
-        before = ap pos same.1;
-        last_fits = subst (λ (n : ℕ). n ≤ most_x) same.0 (leb-true d.second most_x tests.1);
-        before_fits = subst (λ (n : ℕ). n ≤ most_x) same.1 (leb-true d.first most_x tests.0);
-      })
+      subst (Kept zero) (same_kept (rw fits at e)) (record {
+        last = refl;
+        before = refl;
+        last_fits = leb-true d.second most_x tests.1;
+        before_fits = leb-true d.first most_x tests.0;
+      }))
       (λ fails. never (rw fails at e))
-  worked_sound (suc m) {x} {b} e = by (λ y c h. worked_sound m h) (worked d stored m) refl e
+  worked_sound (suc m) {latest = after} e = by (λ latest h. worked_sound m h) (worked d stored m) refl e
     where
-      by : ((y c : ℕ) → worked d stored m ≡ Worked.Kept y c → Kept m y c) → (w : declared.Worked) → worked d stored m ≡ w → next (stored (suc (suc m)) + raised_by d.zmin) (lowered_by d.zmin) w ≡ Worked.Kept x b → Kept (suc m) x b
-      by sound (Worked.Kept y c) h e = judged_kept (sound y c h) e
-      by sound Worked.Out h e = never e
+      by : ((latest : Latest) → worked d stored m ≡ Some latest → Kept m latest) → (w : Option Latest) → worked d stored m ≡ w → following m w ≡ Some after → Kept (suc m) after
+      by sound (Some latest) h e = judged_kept (sound latest h) e
+      by sound None h e = never e
 
   -- Where integers are kept, those before them were.
-  kept_before : (m : ℕ) {x b : ℕ} → worked d stored (suc m) ≡ Worked.Kept x b → (y : ℕ) × (c : ℕ) × (worked d stored m ≡ Worked.Kept y c)
+  kept_before : (m : ℕ) {after : Latest} → worked d stored (suc m) ≡ Some after → (latest : Latest) × (worked d stored m ≡ Some latest)
   unfolding worked
-  kept_before m {x} {b} e = by (worked d stored m) refl e
+  kept_before m {after} e = by (worked d stored m) refl e
     where
-      by : (w : declared.Worked) → worked d stored m ≡ w → next (stored (suc (suc m)) + raised_by d.zmin) (lowered_by d.zmin) w ≡ Worked.Kept x b → (y : ℕ) × (c : ℕ) × (worked d stored m ≡ Worked.Kept y c)
-      by (Worked.Kept y c) h e = (y, c, h)
-      by Worked.Out h e = never e
+      by : (w : Option Latest) → worked d stored m ≡ w → following m w ≡ Some after → (latest : Latest) × (worked d stored m ≡ Some latest)
+      by (Some latest) h e = (latest, h)
+      by None h e = never e
 
   fits : {z : ℤ} {x : ℕ} → z ≡ pos x → x ≤ most_x → is_in_range z ≡ true
   fits {z} {x} e h = ap is_in_range e ∙ le-leb x most_x h
 
   -- All integers up to those that are kept are in their range.
-  pub worked_range : (m : ℕ) {x b : ℕ} → worked d stored m ≡ Worked.Kept x b → (j : ℕ) → j ≤ suc m → is_in_range (integer d stored j) ≡ true
-  worked_range m {x} {b} e zero h = first m e
+  pub worked_range : (m : ℕ) {latest : Latest} → worked d stored m ≡ Some latest → (j : ℕ) → j ≤ suc m → is_in_range (integer d stored j) ≡ true
+  worked_range m e zero h = first m e
     where
-      first : (m : ℕ) {x b : ℕ} → worked d stored m ≡ Worked.Kept x b → is_in_range (integer d stored zero) ≡ true
+      first : (m : ℕ) {latest : Latest} → worked d stored m ≡ Some latest → is_in_range (integer d stored zero) ≡ true
       first zero e = let k = worked_sound zero e in fits k.before k.before_fits
-      first (suc m) e = first m (kept_before m e).2
-  worked_range zero {x} {b} e (suc j) h =
+      first (suc m) e = first m (kept_before m e).1
+  worked_range zero e (suc j) h =
       let k = worked_sound zero e in
       let only : j ≡ 0 = omega arith in
       subst (λ (i : ℕ). is_in_range (integer d stored (suc i)) ≡ true) (sym only) (fits k.last k.last_fits)
-  worked_range (suc m) {x} {b} e (suc j) h =
+  worked_range (suc m) e (suc j) h =
       split (ltb j (suc m))
-      (λ earlier. worked_range m (kept_before m e).2 (suc j) (omega (arith, ltb-true j (suc m) earlier)))
+      (λ earlier. worked_range m (kept_before m e).1 (suc j) (omega (arith, ltb-true j (suc m) earlier)))
       (λ latest.
       let k = worked_sound (suc m) e in
       let only : j ≡ suc m = omega (arith, ltb-false j (suc m) latest) in
@@ -153,23 +154,26 @@ module _ (d : Differencing) (stored : ℕ → ℕ) where
     pub asked : which ≤ suc m
     pub outside : is_in_range (integer d stored which) ≡ false
 
-  judged_out : {m y c : ℕ} → Kept m y c → next (stored (suc (suc m)) + raised_by d.zmin) (lowered_by d.zmin) (Worked.Kept y c) ≡ Worked.Out → Beyond (suc m)
-  judged_out {m} {y} {c} k e =
-      split (ltb up down)
-      (λ low. record { which = suc (suc m); asked = omega arith; outside = ap is_in_range (more k) ∙ below up down (ltb-true up down low) })
+  judged_out : {m : ℕ} {latest : Latest} → Kept m latest → following m (Some latest) ≡ None → Beyond (suc m)
+  judged_out {m} {latest} k e =
+      split (ltb (up m latest) (down latest))
+      (λ low. record {
+        which = suc (suc m);
+        asked = omega arith;
+        outside = ap is_in_range (more k) ∙ below (up m latest) (down latest) (ltb-true (up m latest) (down latest) low);
+      })
       (λ high.
-      split (ltb most_x (up - down))
-      (λ large. record { which = suc (suc m); asked = omega arith; outside = ap is_in_range (more k) ∙ above up down (ltb-false up down high) (ltb-true most_x (up - down) large) })
+      split (ltb most_x (up m latest - down latest))
+      (λ large. record {
+        which = suc (suc m);
+        asked = omega arith;
+        outside = ap is_in_range (more k)
+            ∙ above (up m latest) (down latest) (ltb-false (up m latest) (down latest) high) (ltb-true most_x (up m latest - down latest) large);
+      })
       (λ small. never_out (rw (high, small) at e)))
-    where
-      up : ℕ
-      up = stored (suc (suc m)) + raised_by d.zmin + 2 * y
-
-      down : ℕ
-      down = c + lowered_by d.zmin
 
   -- Where nothing is kept, one of the standard's integers is out of its range.
-  pub worked_out : (m : ℕ) → worked d stored m ≡ Worked.Out → Beyond m
+  pub worked_out : (m : ℕ) → worked d stored m ≡ None → Beyond m
   unfolding worked integer
   worked_out zero e =
       split (leb d.first most_x)
@@ -179,6 +183,6 @@ module _ (d : Differencing) (stored : ℕ → ℕ) where
       (λ one. record { which = 0; asked = omega arith; outside = one })
   worked_out (suc m) e = by (λ h. worked_out m h) (worked d stored m) refl e
     where
-      by : (worked d stored m ≡ Worked.Out → Beyond m) → (w : declared.Worked) → worked d stored m ≡ w → next (stored (suc (suc m)) + raised_by d.zmin) (lowered_by d.zmin) w ≡ Worked.Out → Beyond (suc m)
-      by earlier (Worked.Kept y c) h e = judged_out (worked_sound m h) e
-      by earlier Worked.Out h e = let b = earlier h in record { which = b.which; asked = omega (arith, b.asked); outside = b.outside }
+      by : (worked d stored m ≡ None → Beyond m) → (w : Option Latest) → worked d stored m ≡ w → following m w ≡ None → Beyond (suc m)
+      by earlier (Some latest) h e = judged_out (worked_sound m h) e
+      by earlier None h e = let b = earlier h in record { which = b.which; asked = omega (arith, b.asked); outside = b.outside }

@@ -1,55 +1,40 @@
-// The largest integer X of a field, found before any grey is made. In complex packing it is found as the integers are judged: one that is out of its range shows.
+// The largest integer X of a field, found before any grey is made. In complex packing it is found as the integers are judged: one that is out of its
+// range shows.
 #![tactic(auto)]
 
-ghost use Rattle.std.specs.Prelude.{◌≡◌, ◌-◌, ◌*◌, ◌≤◌, length};
+ghost use Rattle.std.specs.Prelude.{◌≡◌, ◌*◌, ◌≤◌, length};
 ghost use Rattle.bits.specs.Fours.{Foured};
 ghost use Rattle.values_integers.specs.Integers.{simple_integer};
-ghost use Rattle.values_group.specs.Group.{most_x, Limits, behind};
+ghost use Rattle.values_group.specs.Group.{most_x, Limits};
 ghost use Rattle.values_complex.specs.Complex.{values_in, integer_in, Sound};
 ghost use Rattle.values_simple.specs.Simple.{Windowed};
-ghost use Rattle.values_largest.specs.Largest.{larger, largest_of, largest_in, seen_by};
+ghost use Rattle.values_largest.specs.Largest.{largest_of, largest_in, seen_by};
 
+use bits_reader::BitReader;
 use octets::{BitPlace, OctetNumber};
 use section_7::Groups;
 use values_complex::Start;
-use values_group::Group;
+use values_group::{Group, Latest};
 
-// The largest integer of a field, or that one is out of its range.
+// The last two integers, and the largest so far.
 #[derive(Clone, Copy)]
-pub enum Largest {
-    Is(u32),
-    Out,
+pub struct Seen {
+    pub latest: Latest,
+    pub largest: u64,
 }
 
-// The last integer, the one before it and the largest so far, or that one was out of its range.
-#[derive(Clone, Copy)]
-pub enum Seen {
-    Kept { x: u64, before: u64, largest: u64 },
-    Out,
-}
-
-// The larger of two numbers.
-fn larger(one: u64, other: u64) -> u64
-    ensures { result ≡ larger one other }
-{
-    if one < other { other } else { one }
-}
-
-// The largest of so many fours of a field's first integers in simple packing, each four from one window.
+// The largest of so many fours of a field's first integers in simple packing, each four from one window. What was found before stands last in each comparison:
+// the other way round the compiler makes a loop of it that takes longer.
 fn in_fours(section: &[u8], bits: u32, n: u64, fours: u64) -> u64
     requires { (n ≤ 16777216) × (Windowed section.now bits n fours) }
     ensures { result ≡ largest_of (simple_integer section.now bits) (4 * fours) }
 {
-    let mut at = octets::first_bit(OctetNumber(6));
+    let mut reader = BitReader::new(section, octets::first_bit(OctetNumber(6)));
     let mut largest: u64 = 0;
-    let mut done: u64 = 0;
-    while done < fours {
-        let taken = bits_reader::take_four(section, at, bits);
-        let first = larger(taken.first as u64, taken.second as u64);
-        let last = larger(taken.third as u64, taken.fourth as u64);
-        largest = larger(largest, larger(first, last));
-        at = taken.next;
-        done += 1;
+    for _ in 0..fours {
+        let [one, two, three, last] = reader.next_several::<4>(bits);
+        let found = two.max(one).max(last.max(three));
+        largest = (found as u64).max(largest);
     }
     largest
 }
@@ -62,108 +47,73 @@ pub fn of_simple(section: &[u8], bits: u32, n: u64) -> u32
     let first = octets::first_bit(OctetNumber(6));
     let fours = values_simple::window_fours(section, bits, n);
     let mut largest = in_fours(section, bits, n, fours);
-    let mut done = 4 * fours;
-    let mut at = BitPlace(first.0 + done as usize * bits as usize);
-    while done < n {
-        let taken = bits_reader::take(section, at, bits);
-        largest = larger(largest, taken.number as u64);
-        at = taken.next;
-        done += 1;
+    let start = 4 * fours;
+    let place = BitPlace(first.0 + start as usize * bits as usize);
+    let mut reader = BitReader::new(section, place);
+    for _ in start..n {
+        let x = reader.next(bits);
+        largest = (x as u64).max(largest);
     }
     largest as u32
 }
 
-// Works out so many fours of a group's first integers. One test behind the last finds any that is out of its range: as a number without a sign it is the largest then.
-fn in_group_fours(
-    section: &[u8],
-    group: Group,
-    fours: u64,
-    latest: u64,
-    earlier: u64,
-    found: u64,
-) -> Seen
-    requires { (Limits group latest earlier) × (Foured (length section.now) group.from.0 group.width group.count fours) × (found ≤ most_x) }
-    ensures { result ≡ seen_by section.now group latest earlier found (4 * fours) }
+// Works out so many fours of a group's first integers. One test behind the last finds any that is out of its range: as a number without a sign it is
+// the largest then.
+fn in_group_fours(section: &[u8], group: Group, fours: u64, seen: Seen) -> Option<Seen>
+    requires { (Limits group seen.latest) × (Foured (length section.now) group.from.0 group.width group.count fours) × (seen.largest ≤ most_x) }
+    ensures { result ≡ seen_by section.now group seen (4 * fours) }
 {
     let width = group.width;
     let gain = values_group::gain_of(group);
-    let mut at = group.from;
-    let mut x = latest;
-    let mut before = earlier;
-    let mut largest = found;
-    let mut done: u64 = 0;
-    while done < fours {
-        let taken = bits_reader::four_at(section, at, width);
-        let first = values_group::integer_behind(taken.first, gain, x, before);
-        let second = values_group::integer_behind(taken.second, gain, first, x);
-        let third = values_group::integer_behind(taken.third, gain, second, first);
-        let fourth = values_group::integer_behind(taken.fourth, gain, third, second);
-        largest = larger(
-            larger(larger(larger(largest, first), second), third),
-            fourth,
-        );
-        before = third;
-        x = fourth;
-        at = taken.next;
-        done += 1;
+    let mut reader = BitReader::new(section, group.from);
+    let mut latest = seen.latest;
+    let mut largest = seen.largest;
+    for _ in 0..fours {
+        let [one, two, three, last] = reader.next_four(width);
+        let first = latest.next(one, gain);
+        let second = latest.next(two, gain);
+        let third = latest.next(three, gain);
+        let fourth = latest.next(last, gain);
+        largest = fourth.max(third.max(second.max(first.max(largest))));
     }
     if 2147483647 < largest {
-        return Seen::Out;
+        return None;
     }
-    Seen::Kept { x, before, largest }
+    Some(Seen { latest, largest })
 }
 
-// Works out the integers of a group one by one, from number `from` on, with one test behind the last.
-fn in_group_each(
-    section: &[u8],
-    group: Group,
-    from: u64,
-    latest: u64,
-    earlier: u64,
-    found: u64,
-) -> Seen
-    requires { (Limits group latest earlier) × (from ≤ group.count) × (found ≤ most_x) }
-    ensures { result ≡ seen_by section.now (behind group from) latest earlier found (group.count - from) }
+// Works out the integers of a group one by one, with one test behind the last.
+fn in_group_each(section: &[u8], group: Group, seen: Seen) -> Option<Seen>
+    requires { (Limits group seen.latest) × (seen.largest ≤ most_x) }
+    ensures { result ≡ seen_by section.now group seen group.count }
 {
     let width = group.width;
     let gain = values_group::gain_of(group);
-    let count = group.count;
-    let mut at = BitPlace(group.from.0 + from as usize * width as usize);
-    let mut x = latest;
-    let mut before = earlier;
-    let mut largest = found;
-    let mut done = from;
-    while done < count {
-        let taken = bits_reader::take(section, at, width);
-        let one = values_group::integer_behind(taken.number, gain, x, before);
-        largest = larger(largest, one);
-        before = x;
-        x = one;
-        at = taken.next;
-        done += 1;
+    let mut reader = BitReader::new(section, group.from);
+    let mut latest = seen.latest;
+    let mut largest = seen.largest;
+    for _ in 0..group.count {
+        let x = latest.next(reader.next(width), gain);
+        largest = x.max(largest);
     }
     if 2147483647 < largest {
-        return Seen::Out;
+        return None;
     }
-    Seen::Kept { x, before, largest }
+    Some(Seen { latest, largest })
 }
 
 // Works out the integers of a group, behind the two latest, and finds the largest of them and of those before the group.
-fn in_group(section: &[u8], group: Group, latest: u64, earlier: u64, found: u64) -> Seen
-    requires { (Limits group latest earlier) × (found ≤ most_x) }
-    ensures { result ≡ seen_by section.now group latest earlier found group.count }
+fn in_group(section: &[u8], group: Group, seen: Seen) -> Option<Seen>
+    requires { (Limits group seen.latest) × (seen.largest ≤ most_x) }
+    ensures { result ≡ seen_by section.now group seen group.count }
 {
     let fours = bits::fours_in(section.len(), group.from, group.width, group.count as usize) as u64;
-    let Seen::Kept { x, before, largest } = in_group_fours(
-        section, group, fours, latest, earlier, found,
-    ) else {
-        return Seen::Out;
-    };
-    in_group_each(section, group, 4 * fours, x, before, largest)
+    let found = in_group_fours(section, group, fours, seen)?;
+    in_group_each(section, values_group::behind(group, 4 * fours), found)
 }
 
-// The largest of a field's integers in complex packing, group by group, or that one is out of its range.
-pub fn of_complex(section: &[u8], groups: Groups) -> Largest
+// The largest of a field's integers in complex packing, group by group, where none is out of its range.
+pub fn of_complex(section: &[u8], groups: Groups) -> Option<u32>
     requires { Sound section.now groups }
     ensures { result ≡ largest_in (integer_in section.now groups) (values_in section.now groups) }
 {
@@ -171,33 +121,23 @@ pub fn of_complex(section: &[u8], groups: Groups) -> Largest
     let grouping = groups.grouping;
     let differencing = groups.differencing;
     if 2147483647 < differencing.first {
-        return Largest::Out;
+        return None;
     }
     if 2147483647 < differencing.second {
-        return Largest::Out;
+        return None;
     }
-    let mut x = differencing.second as u64;
-    let mut before = differencing.first as u64;
-    let mut largest = larger(before, x);
+    let x = differencing.second as u64;
+    let before = differencing.first as u64;
+    let mut seen = Seen {
+        latest: Latest { x, before },
+        largest: x.max(before),
+    };
     let bit = octets::first_bit(layout.packed);
     let mut start = Start { values: 0, bit };
-    let mut i: u32 = 0;
-    while i < grouping.groups {
+    for i in 0..grouping.groups {
         let met = values_complex::group_at(section, groups, i, start);
-        let group = met.group;
-        let Seen::Kept {
-            x: last,
-            before: previous,
-            largest: found,
-        } = in_group(section, group, x, before, largest)
-        else {
-            return Largest::Out;
-        };
-        x = last;
-        before = previous;
-        largest = found;
+        seen = in_group(section, met.group, seen)?;
         start = met.next;
-        i += 1;
     }
-    Largest::Is(largest as u32)
+    Some(seen.largest as u32)
 }

@@ -36,7 +36,8 @@ pub fn rank_of(bitmap: &[u8], point: usize) -> usize
     bits_ones::ones_before(bitmap, point)
 }
 
-// Writes +0 to the points that are missing from `point` on, up to the next that is present or to the end, and answers where it stopped.
+// Writes +0 to the points that are missing from `point` on, up to the next that is present or to the end, and answers where it stopped. A loop over
+// the places, `for i in point..values.len()`, takes about a tenth longer where most blocks have missing points.
 pub fn clear_missing(bitmap: &[u8], values: &mut [f64], presence: &mut [u8], point: usize) -> usize
     requires room { Room bitmap.now values.old presence.old }
     requires point_in_bounds { point ≤ length values.old }
@@ -81,11 +82,9 @@ fn write_all(packing: Packing, block: &[u32], values: &mut [f64], presence: &mut
 {
     // The loop has a packing of its own: of the lent one the compiler cannot know that the written doubles leave it alone.
     let own = packing;
-    let mut i: usize = 0;
-    while i < block.len() {
-        values[point + i] = doubles::rebuild(own, block[i] % 0x8000_0000);
+    for (i, &x) in block.iter().enumerate() {
+        values[point + i] = doubles::rebuild(own, x % 0x8000_0000);
         presence[point + i] = 1;
-        i += 1;
     }
 }
 
@@ -118,17 +117,8 @@ fn write_each(
         (lent values presence) (left values presence) }
 {
     let mut next = point;
-    let mut k: usize = 0;
-    while k < block.len() {
-        next = write_next(
-            bitmap,
-            packing,
-            block[k] % 0x8000_0000,
-            values,
-            presence,
-            next,
-        );
-        k += 1;
+    for &x in block {
+        next = write_next(bitmap, packing, x % 0x8000_0000, values, presence, next);
     }
     next
 }

@@ -1,23 +1,22 @@
 -- The laws of numbers that lie one behind the other.
 use mathlib.Core.Path.{◌≡◌, refl, sym, ap, ◌∙◌}
 use mathlib.Core.List.{List}
-use Prim.Native.Nat.{ℕ, ◌+◌, ◌-◌, ◌*◌, ◌/◌, ◌%◌, ◌≤◌, ◌<◌}
-use native.Mathlib.Nat.{add-mul, one-mul, mul-le-mul_right, lt_of_lt_of_le}
+use Prim.Native.Nat.{ℕ, ◌+◌, ◌*◌, ◌%◌, ◌≤◌, ◌<◌}
+use native.Mathlib.Nat.{add-mul, one-mul, lt_of_lt_of_le}
 use native.Mathlib.Omega.{arith}
 use borrow.Author.Tests.{ltb-false}
 use lib.Dec.{ltb}
 use lib.ListN.{length, get_or}
 use lib.Pow.{pow_mono}
-use Rattle.laws_rows.specs.Rows.{row, filled}
-use Rattle.laws_rows.proofs.Laws.{row_same, row_at, filled_length, filled_same, filled_further, filled_whole}
+use Rattle.laws_rows.specs.Rows.{row}
+use Rattle.laws_rows.proofs.Laws.{row_same, row_at}
 use Rattle.octets.specs.Places.{first_bit}
 use Rattle.octets.proofs.Cases.{split}
 use Rattle.bits.specs.Bits.{bits_at}
 use Rattle.bits.proofs.Laws.{bits_lt}
-use Rattle.bits.specs.Fours.{Foured}
-use Rattle.bits.proofs.Fours.{fours_foured}
-use Rattle.bits_reader.specs.declared.TakenFour.{TakenFour}
-use Rattle.bits_reader.specs.Reading.{FourTaken}
+use Rattle.bits.specs.Fours.{numbers_at}
+use Rattle.bits.proofs.Fours.{fours_foured, number_of_several}
+use Rattle.bits_reader.specs.declared.BitReader.{BitReader}
 use Rattle.values_points.specs.Written.{integers_in}
 use Rattle.values_integers.specs.Integers.{simple_integer}
 use Rattle.values_simple.specs.Simple.{numbers_from, integers_behind, ZerosWithoutBits, window_fours, Windowed}
@@ -26,58 +25,52 @@ use Rattle.values_simple.specs.Simple.{numbers_from, integers_behind, ZerosWitho
 pub place_behind : (first k m bits : ℕ) {at next : ℕ} → at ≡ first + k * bits → next ≡ k + m → at + m * bits ≡ first + next * bits
 place_behind first k m bits here more = rw more (omega (arith, add-mul k m bits))
 
--- The place behind one.
-pub place_next : (first k bits : ℕ) {at next : ℕ} → at ≡ first + k * bits → next ≡ k + 1 → at + bits ≡ first + next * bits
-place_next first k bits here more = omega (arith, place_behind first k 1 bits here more, one-mul bits)
-
 -- The number at a place is the one that is counted there.
 pub number_here : (run : List ℕ) (bits first k : ℕ) {at : ℕ} → at ≡ first + k * bits → bits_at run at bits ≡ numbers_from run bits first k
 number_here run bits first k here = ap (λ (i : ℕ). bits_at run i bits) here
 
--- Eight octets are left behind two numbers of each four.
-pub four_inside : {octets first bits count fours at : ℕ} (k : ℕ) → Foured octets first bits count fours → k + 4 ≤ 4 * fours → at ≡ first + k * bits → (at + 2 * bits) / 8 + 8 ≤ octets
-four_inside {bits = bits} {fours = fours} k foured inside place =
-    let two : k + 2 ≤ 4 * fours = omega arith in
-    omega (arith, foured.inside (omega arith), mul-le-mul_right bits two, add-mul k 2 bits, place)
+-- A reader stands at number k of a run of numbers.
+pub record Stands (run : List ℕ) (bits first k : ℕ) (reader : BitReader) : Type 0 where
+  pub same_run : reader.run.now ≡ run
+  pub place : reader.at.0 ≡ first + k * bits
 
--- The four numbers at the place of number i are that one and the three behind it.
-pub record FourHere (run : List ℕ) (bits first i : ℕ) (four : TakenFour) : Type 0 where
-  pub one : four.first ≡ numbers_from run bits first i
-  pub two : four.second ≡ numbers_from run bits first (i + 1)
-  pub three : four.third ≡ numbers_from run bits first (i + 2)
-  pub last : four.fourth ≡ numbers_from run bits first (i + 3)
-  pub next : four.next.0 ≡ first + (i + 4) * bits
+pub stands_first : (bits : ℕ) {run : List ℕ} {first : ℕ} {reader : BitReader} → reader.run.now ≡ run → reader.at.0 ≡ first → Stands run bits first 0 reader
+stands_first bits same place = record { same_run = same; place = omega (arith, place) }
 
-pub four_here : {run : List ℕ} {bits at : ℕ} {four : TakenFour} (first i : ℕ) → FourTaken run at bits four → at ≡ first + i * bits → FourHere run bits first i four
-four_here {run} {bits} {at} first i found here =
-    record {
-      one = found.first ∙ number_here run bits first i here;
-      two = found.second ∙ number_here run bits first (i + 1) (place_next first i bits here refl);
-      three = found.third ∙ number_here run bits first (i + 2) (place_behind first i 2 bits here refl);
-      last = found.fourth ∙ number_here run bits first (i + 3) (place_behind first i 3 bits here refl);
-      next = found.next ∙ place_behind first i 4 bits here refl;
-    }
+module _ {run : List ℕ} {bits first k : ℕ} {reader : BitReader} (stands : Stands run bits first k reader) where
+  -- It goes on by some numbers.
+  pub stands_on : {after : BitReader} → after.run ≡ reader.run → (n : ℕ) {j : ℕ} → after.at.0 ≡ reader.at.0 + n * bits → j ≡ k + n → Stands run bits first j after
+  stands_on same n there more = record {
+    same_run = ap (λ r. r.now) same ∙ stands.same_run;
+    place = there ∙ place_behind first k n bits stands.place more;
+  }
+
+  pub stands_behind : {after : BitReader} → after.run ≡ reader.run → after.at.0 ≡ reader.at.0 + bits → Stands run bits first (k + 1) after
+  stands_behind same there = stands_on same 1 (omega (arith, there, one-mul bits)) refl
+
+  -- What it reads is that number, or that one and the three behind it.
+  pub reads_one : {number : ℕ} → number ≡ bits_at reader.run.now reader.at.0 bits → number ≡ numbers_from run bits first k
+  reads_one read = read ∙ ap (λ (r : List ℕ). bits_at r reader.at.0 bits) stands.same_run ∙ number_here run bits first k stands.place
+
+  pub reads_four : {numbers : List ℕ} → numbers ≡ numbers_at reader.run.now reader.at.0 bits 4 → (n : ℕ) → n < 4 → get_or numbers n 0 ≡ numbers_from run bits first (k + n)
+  reads_four {numbers} four n h =
+      ap (λ (all : List ℕ). get_or all n 0) four
+      ∙ number_of_several reader.run.now reader.at.0 bits 4 n h
+      ∙ ap (λ (r : List ℕ). bits_at r (reader.at.0 + n * bits) bits) stands.same_run
+      ∙ number_here run bits first (k + n) (place_behind first k n bits stands.place refl)
+
+-- The integers behind the first ones are numbers from the place of the first of them on, and behind some of these from a place further on.
+pub integers_from : (run : List ℕ) (bits done : ℕ) {first : ℕ} → first ≡ first_bit 6 + done * bits → (k : ℕ) → numbers_from run bits first k ≡ integers_behind run bits done k
+integers_from run bits done start k = number_here run bits (first_bit 6) (done + k) (place_behind (first_bit 6) done k bits start refl)
+
+pub numbers_further : (run : List ℕ) (bits first count k : ℕ) → numbers_from run bits (first + count * bits) k ≡ numbers_from run bits first (count + k)
+numbers_further run bits first count k = number_here run bits first (count + k) (place_behind first count k bits refl refl)
 
 module _ (run : List ℕ) (bits done : ℕ) (block : List ℕ) where
   -- A block of zeros has the integers of no bits.
   pub no_bits : bits ≡ 0 → ZerosWithoutBits bits block → block ≡ row (integers_behind run bits done) (length block)
   unfolding bits_at
   no_bits none zeros = zeros none ∙ row_same (λ _. 0) (integers_behind run bits done) (length block) (λ k _. rw none)
-
-  -- Fours from the block's first element on, and then numbers one by one, are all integers of the block.
-  pub all_unpacked : {first next : ℕ} (count : ℕ) (middle after : List ℕ) → count ≤ length block → first ≡ first_bit 6 + done * bits → next ≡ first + count * bits →
-      middle ≡ filled (numbers_from run bits first) 0 count block → after ≡ filled (λ i. numbers_from run bits next (i - count)) count (length middle - count) middle →
-      after ≡ row (integers_behind run bits done) (length block)
-  all_unpacked {first} {next} count middle after few start here fours rest =
-      let n = length block in
-      let f : ℕ → ℕ = numbers_from run bits first in
-      let same : length middle ≡ n = ap length fours ∙ filled_length f 0 count block in
-      let later : (i : ℕ) → count ≤ i → i < count + (n - count) → numbers_from run bits next (i - count) ≡ f i =
-      λ i l _. number_here run bits first i (place_behind first count (i - count) bits here (omega arith)) in
-      let behind : after ≡ filled f count (n - count) middle = rw same at rest ∙ filled_same (λ i. numbers_from run bits next (i - count)) f count (n - count) middle later in
-      filled_further f block middle after few fours behind
-      ∙ filled_whole f n block refl
-      ∙ row_same f (integers_behind run bits done) n (λ k _. number_here run bits (first_bit 6) (done + k) (place_behind (first_bit 6) done k bits start refl))
 
   -- Behind the unpacking a block of zeros for integers of no bits is as it was.
   pub zeros_stay : {after : List ℕ} → bits ≡ 0 → ZerosWithoutBits bits block → after ≡ row (integers_behind run bits done) (length block) → after ≡ block

@@ -1,15 +1,17 @@
 // Simple packing (5.0): the integers X of a field, put into a lent block, and a field's points, written into runs lent for them.
 #![tactic(auto)]
 
-ghost use Rattle.std.specs.Prelude.{◌≡◌, ◌+◌, ◌-◌, ◌*◌, ◌≤◌, length};
-ghost use Rattle.laws_rows.specs.Rows.{row, filled};
+ghost use Rattle.std.specs.Prelude.{◌≡◌, ℕ, suc, ◌*◌, ◌≤◌, length};
+ghost use Rattle.laws_rows.specs.Rows.{row};
 ghost use Rattle.bits.specs.Fours.{Foured};
 ghost use Rattle.values_points.specs.Written.{marks_in, lent, left, Room, Filled};
 ghost use Rattle.values_integers.specs.Integers.{simple_integer};
 ghost use Rattle.values_simple.specs.Simple.{numbers_from, integers_behind, ZerosWithoutBits, window_fours};
 
+use bits_reader::BitReader;
 use doubles::Packing;
 use octets::{BitPlace, OctetNumber};
+use values_group::{Becomes, Itself};
 
 // The integer numbered m of the field.
 pub fn integer_at(section: &[u8], bits: u32, m: u64) -> u32
@@ -40,48 +42,59 @@ pub fn window_fours(section: &[u8], bits: u32, n: u64) -> u64
     ) as u64
 }
 
-// Puts numbers into a block one by one, from element `from` on. The first of them stands at a place.
-fn unpack_each(section: &[u8], bits: u32, first: BitPlace, from: usize, block: &mut [u32])
-    requires { (first.0 ≤ 2199023255552) × (bits ≤ 31) × (from ≤ length block.old) × (length block.old ≤ 4294967296) }
-    ensures { block.new ≡ filled (λ i. numbers_from section.now bits first.0 (i - from))
-        from (length block.old - from) block.old }
+// Puts numbers one by one, one into each element of a run. The first of them stands at a place.
+fn put_each<B: Becomes>(section: &[u8], bits: u32, first: BitPlace, sink: B, run: &mut [B::Element])
+    requires limits { (first.0 ≤ 2199023255552) × (bits ≤ 31) × (length run.old ≤ 4294967296) }
+    requires taken { (k : ℕ) → suc k ≤ length run.old → B.takes sink (numbers_from section.now bits first.0 k) }
+    ensures { run.new ≡ row (λ k. B.becomes sink (numbers_from section.now bits first.0 k)) (length run.old) }
 {
-    let mut at = first;
-    let mut i = from;
-    while i < block.len() {
-        let taken = bits_reader::take(section, at, bits);
-        block[i] = taken.number;
-        at = taken.next;
-        i += 1;
+    // The loop has a sink of its own: of the lent one the compiler cannot know that what is written leaves it alone.
+    let own = sink;
+    let mut reader = BitReader::new(section, first);
+    for place in run.iter_mut() {
+        *place = own.of(reader.next(bits));
     }
 }
 
-// Puts so many fours of numbers into a block, from its first element on, and answers the place behind them.
-fn unpack_fours(
+// Puts so many fours of numbers into a run of as many elements, where eight octets are left behind each.
+fn put_fours<B: Becomes>(
     section: &[u8],
     bits: u32,
     first: BitPlace,
     fours: usize,
-    block: &mut [u32],
-) -> BitPlace
-    requires first_bound { (first.0 ≤ 1099511627776) × (length block.old ≤ 4294967296) }
-    requires foured { Foured (length section.now) first.0 bits (length block.old) fours }
-    ensures result_value { result.0 ≡ first.0 + 4 * fours * bits }
-    ensures block_after { block.new ≡ filled (numbers_from section.now bits first.0) 0 (4 * fours) block.old }
+    sink: B,
+    run: &mut [B::Element],
+)
+    requires limits { (first.0 ≤ 1099511627776) × (length run.old ≤ 4294967296) × (length run.old ≡ 4 * fours) }
+    requires foured { Foured (length section.now) first.0 bits (length run.old) fours }
+    requires taken { (k : ℕ) → suc k ≤ length run.old → B.takes sink (numbers_from section.now bits first.0 k) }
+    ensures { run.new ≡ row (λ k. B.becomes sink (numbers_from section.now bits first.0 k)) (length run.old) }
 {
-    let end = 4 * fours;
-    let mut at = first;
-    let mut i: usize = 0;
-    while i < end {
-        let taken = bits_reader::four_at(section, at, bits);
-        block[i] = taken.first;
-        block[i + 1] = taken.second;
-        block[i + 2] = taken.third;
-        block[i + 3] = taken.fourth;
-        at = taken.next;
-        i += 4;
+    let own = sink;
+    let mut reader = BitReader::new(section, first);
+    for four in 0..fours {
+        let i = 4 * four;
+        let [one, two, three, last] = reader.next_four(bits);
+        run[i] = own.of(one);
+        run[i + 1] = own.of(two);
+        run[i + 2] = own.of(three);
+        run[i + 3] = own.of(last);
     }
-    at
+}
+
+// Puts integers, from number `done` of the field on, one into each element of a lent run: four at a time, and what is left one by one.
+pub fn put<B: Becomes>(section: &[u8], bits: u32, done: u64, sink: B, run: &mut [B::Element])
+    requires limits { (bits ≤ 31) × (done ≤ 16777216) × (length run.old ≤ 16777216) }
+    requires taken { (k : ℕ) → suc k ≤ length run.old → B.takes sink (integers_behind section.now bits done k) }
+    ensures { run.new ≡ row (λ k. B.becomes sink (integers_behind section.now bits done k)) (length run.old) }
+{
+    let start = octets::first_bit(OctetNumber(6));
+    let first = BitPlace(start.0 + done as usize * bits as usize);
+    let fours = bits::fours_in(section.len(), first, bits, run.len());
+    let (front, back) = run.split_at_mut(4 * fours);
+    put_fours(section, bits, first, fours, sink, front);
+    let rest = BitPlace(first.0 + 4 * fours * bits as usize);
+    put_each(section, bits, rest, sink, back);
 }
 
 // Puts integers into a lent block, from number `done` of the field on, one for each element. Those of no bits are zeros, as the block has to be then: a
@@ -93,11 +106,7 @@ pub fn unpack(section: &[u8], bits: u32, done: u64, block: &mut [u32])
     if bits == 0 {
         return;
     }
-    let start = octets::first_bit(OctetNumber(6));
-    let first = BitPlace(start.0 + done as usize * bits as usize);
-    let fours = bits::fours_in(section.len(), first, bits, block.len());
-    let next = unpack_fours(section, bits, first, fours, block);
-    unpack_each(section, bits, next, 4 * fours, block);
+    put(section, bits, done, Itself, block);
 }
 
 // Fills the runs for a field of n integers: a block at a time.

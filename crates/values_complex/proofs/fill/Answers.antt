@@ -9,7 +9,6 @@ use Rattle.values_points.proofs.Marks.{ranked}
 use Rattle.values_points.proofs.Laws.{past_lengths}
 use Rattle.values_points.proofs.Missing.{cleared_filled}
 use Rattle.values_complex.specs.Complex.{size_in}
-use Rattle.values_complex.proofs.Bounds.{packed_low, starts_bounded}
 use Rattle.values_complex.proofs.Joined.{two_fit}
 use Rattle.values_complex.proofs.Passed.{passed_none, next_kept, passed_more, all_written, next_room}
 use Rattle.values_complex.proofs.Turns.{kept_limits}
@@ -24,12 +23,9 @@ lengths c =
     let bitmap = c.args.bitmap.now in
     omega (arith, past_lengths (marks_in bitmap) (ranked bitmap).more c.loop-i.invariant.4.written, c.requires.room)
 
-pub write-point-requires : goal.write-point-requires
-write-point-requires c =
-    record { room = c.requires.room; points_left = ((omega arith, omega (arith, c.requires.groups_value, c.requires.sound.two_values, (ranked c.args.bitmap.now).none)), omega arith) }
-
-pub first_bit-bit-requires : goal.first_bit-bit-requires
-first_bit-bit-requires c = omega (arith, packed_low _ _ c.requires.sound, starts_bounded _ _ c.requires.sound)
+pub write-point-requires-clause-points_left : goal.write-point-requires-clause-points_left
+write-point-requires-clause-points_left c =
+    ((omega arith, omega (arith, c.requires.groups_value, c.requires.sound.two_values, (ranked c.args.bitmap.now).none)), omega arith)
 
 pub loop-i-init : goal.loop-i-init
 loop-i-init c =
@@ -47,29 +43,26 @@ loop-i-init c =
       passed_none section c.args.groups c.requires.sound c.requires.all_in_range (ranked bitmap) first second c.write-point.ensures,
     )
 
-pub group_at-met-requires : goal.group_at-met-requires
-group_at-met-requires c = record { sound = (c.requires.sound, c.loop-i-test.true); start_value = c.loop-i.invariant.4.starts }
-
-pub slice_bounds-write_group-end : goal.slice_bounds-write_group-end
-slice_bounds-write_group-end c = sym c.loop-i.invariant.3
-
-pub write_group-reached-requires : goal.write_group-reached-requires
-write_group-reached-requires c =
+pub write_group-reached-requires-clause-limits : goal.write_group-reached-requires-clause-limits
+write_group-reached-requires-clause-limits c =
     let section = c.args.section.now in
-    let bitmap = c.args.bitmap.now in
     let groups = c.args.groups in
-    let here = c.loop-i-test.true in
     let passed = c.loop-i.invariant.4 in
-    let long = lengths (goal.at.write_group-reached-requires c).At-loop-i in
-    let room = next_room section groups c.requires.sound c.requires.all_in_range (ranked bitmap) passed here in
-    rw c.group_at-met.ensures.0 (record {
-      limits = (kept_limits section groups _ passed.kept here c.requires.sound, next_kept section groups c.requires.sound c.requires.all_in_range (ranked bitmap) passed here);
-      room = (
-        (omega (arith, long), omega (arith, long, c.requires.room.1), λ some. omega (arith, long, c.requires.room.2 some)),
-        (omega (arith, long, passed.written.within), omega (arith, room, c.requires.groups_value, ap (marks_in bitmap).rank long.0)),
-      );
-      block_len = c.loop-i.invariant.3;
-    })
+    rw c.group_at-met.ensures.0 (
+      kept_limits section groups _ passed.kept c.loop-i-test.true c.requires.sound,
+      next_kept section groups c.requires.sound c.requires.all_in_range (ranked c.args.bitmap.now) passed c.loop-i-test.true,
+    )
+
+pub write_group-reached-requires-clause-room : goal.write_group-reached-requires-clause-room
+write_group-reached-requires-clause-room c =
+    let bitmap = c.args.bitmap.now in
+    let passed = c.loop-i.invariant.4 in
+    let long = lengths (goal.at.write_group-reached-requires-clause-room c).At-loop-i in
+    let room = next_room c.args.section.now c.args.groups c.requires.sound c.requires.all_in_range (ranked bitmap) passed c.loop-i-test.true in
+    rw c.group_at-met.ensures.0 (
+      (omega (arith, long), omega (arith, long, c.requires.room.1), λ some. omega (arith, long, c.requires.room.2 some)),
+      (omega (arith, long, passed.written.within), omega (arith, room, c.requires.groups_value, ap (marks_in bitmap).rank long.0)),
+    )
 
 pub loop-i-preserved : goal.loop-i-preserved
 loop-i-preserved c =
@@ -81,17 +74,6 @@ loop-i-preserved c =
       passed_more c.args.section.now c.args.groups c.requires.sound c.requires.all_in_range (ranked c.args.bitmap.now) c.loop-i.invariant.4 c.loop-i-test.true
           c.group_at-met.ensures.1 (rw group at c.write_group-reached.ensures.group_goes) (rw group at c.write_group-reached.ensures.group_written),
     )
-
-pub clear_missing-requires : goal.clear_missing-requires
-clear_missing-requires c =
-    let long = lengths (goal.at.clear_missing-requires c).At-loop-i in record { room = (omega (arith, long), omega (arith, long, c.requires.room.1), λ some. omega (arith, long, c.requires.room.2 some)); point_in_bounds = omega (arith, long, c.loop-i.invariant.4.written.within) }
-
-pub shape_of-values : goal.shape_of-values
-shape_of-values c = omega (arith, c.clear_missing.auto, lengths (goal.at.shape_of-values c).At-loop-i)
-
-pub shape_of-presence : goal.shape_of-presence
-shape_of-presence c =
-    omega (arith, c.clear_missing.auto, lengths (goal.at.shape_of-presence c).At-loop-i, c.requires.room)
 
 pub returns : goal.returns
 returns c =

@@ -3,24 +3,9 @@
 use Prim.Native.Nat.{◌+◌, ◌*◌, ◌^◌, ◌≤◌, ◌<◌}
 use mathlib.Core.Path.{sym}
 use native.Mathlib.Omega.{arith}
-use Rattle.values_complex.proofs.Bounds.{skipped_within, skipped_bits, raised_within, starts_bounded, values_fit, end_low, start_more}
+use Rattle.values_complex.proofs.Bounds.{skipped_within, skipped_bits, values_fit, end_low, start_more}
 use Rattle.values_complex.proofs.group_at.Goals.{After-length_of-length, After-skipped-skip}
 use Rattle.values_complex.proofs.group_at.Goals as goal
-
-pub width_of-width-requires : goal.width_of-width-requires
-width_of-width-requires c =
-    let sound = c.requires.sound.0 in
-    omega (arith, starts_bounded _ _ sound, sound.limited)
-
-pub length_of-length-requires : goal.length_of-length-requires
-length_of-length-requires c =
-    let sound = c.requires.sound.0 in
-    omega (arith, starts_bounded _ _ sound, sound.limited)
-
-pub stored-reference-requires : goal.stored-reference-requires
-stored-reference-requires c =
-    let sound = c.requires.sound.0 in
-    omega (arith, starts_bounded _ _ sound, sound.limited)
 
 -- The values up to the end of the group are few.
 values : (c : After-length_of-length) → c.args.start.values + c.length_of-length.result ≤ 16777216
@@ -40,20 +25,9 @@ skips : (c : After-skipped-skip) →
     (skip ≤ length) × (skip * width ≤ width * length)
 skips c = rw c.skipped-skip.ensures (skipped_within _ _, skipped_bits _ _ _)
 
-pub overflow_mul-result : goal.overflow_mul-result
-overflow_mul-result c =
-    omega (arith, end (goal.at.overflow_mul-result c).After-length_of-length, skips (goal.at.overflow_mul-result c).After-skipped-skip)
-
 pub overflow_add-result : goal.overflow_add-result
 overflow_add-result c =
     omega (arith, end (goal.at.overflow_add-result c).After-length_of-length, skips (goal.at.overflow_add-result c).After-skipped-skip)
-
-pub overflow_add-result-2 : goal.overflow_add-result-2
-overflow_add-result-2 c =
-    omega (arith, c.stored-reference.ensures.1, c.raised_by.ensures, raised_within c.args.groups.differencing.zmin c.requires.sound.0.zmin_fits)
-
-pub overflow_sub-result : goal.overflow_sub-result
-overflow_sub-result c = omega (arith, skips (goal.at.overflow_sub-result c).After-skipped-skip)
 
 pub overflow_add-result-3 : goal.overflow_add-result-3
 overflow_add-result-3 c = omega (arith, values (goal.at.overflow_add-result-3 c).After-length_of-length)

@@ -2,7 +2,7 @@
 use mathlib.Core.Path.{◌≡◌, sym, ap, ◌∙◌}
 use Prim.Native.Nat.{suc, ◌+◌, ◌-◌, ◌≤◌}
 use native.Mathlib.Omega.{arith}
-use Rattle.values_group.specs.Group.{is_kept}
+use Rattle.std.specs.Prelude.{is_some}
 use Rattle.values_integers.proofs.Joined.{worked_sound}
 use Rattle.values_integers.specs.Integers.{stored_at, are_in_range}
 use Rattle.values_complex.specs.Complex.{integer_in, single_of}
@@ -29,30 +29,24 @@ returns-then-differencing-gt2147483647-2 c =
 behind : (c : Else-differencing-gt2147483647-2) → 1 ≤ c.args.m
 behind c = omega (arith, c.if-m-eq0.false)
 
-pub overflow_sub-m : goal.overflow_sub-m
-overflow_sub-m c = omega (arith, behind (goal.at.overflow_sub-m c).Else-differencing-gt2147483647-2)
-
-pub worked_to-requires : goal.worked_to-requires
-worked_to-requires c =
-    record { sound = (c.requires.0, omega (arith, c.requires.1, behind (goal.at.worked_to-requires c).Else-differencing-gt2147483647-2)); first_bound = (c.if-differencing-gt2147483647.false, c.if-differencing-gt2147483647-2.false) }
-
 pub overflow_cast-result : goal.overflow_cast-result
 overflow_cast-result c =
     let a = c.args in
     let g = a.groups in
-    omega (arith, (worked_sound g.differencing (stored_at a.section.now g.layout g.bits g.grouping) (a.m - 1) (sym c.worked_to.ensures ∙ c.in-Kept.is)).last_fits)
+    omega (arith, (worked_sound g.differencing (stored_at a.section.now g.layout g.bits g.grouping) (a.m - 1) (sym c.worked_to.ensures ∙ c.in_ok-latest.was)).last_fits)
 
-pub returns-in-Kept : goal.returns-in-Kept
-returns-in-Kept c =
+pub returns-in_err-latest : goal.returns-in_err-latest
+returns-in_err-latest c =
     let a = c.args in
-    let own : suc (a.m - 1) ≡ a.m = omega (arith, behind (goal.at.returns-in-Kept c).Else-differencing-gt2147483647-2) in
-    single_kept a.section.now a.groups (a.m - 1) (sym c.worked_to.ensures ∙ c.in-Kept.is) ∙ ap (single_of (integer_in a.section.now a.groups)) own
-
-pub returns-in-Out : goal.returns-in-Out
-returns-in-Out c =
-    let a = c.args in
-    let own : a.m - 1 + 2 ≡ suc a.m = omega (arith, behind (goal.at.returns-in-Out c).Else-differencing-gt2147483647-2) in
-    single_out a.section.now a.groups a.m
+    let own : a.m - 1 + 2 ≡ suc a.m = omega (arith, behind (goal.at.returns-in_err-latest c).Else-differencing-gt2147483647-2) in
+    c.from_residual.ensures
+    ∙ single_out a.section.now a.groups a.m
     (sym (ap (are_in_range (integer_in a.section.now a.groups)) own)
     ∙ range_worked a.section.now a.groups (a.m - 1)
-    ∙ ap is_kept (sym c.worked_to.ensures ∙ c.in-Out.is))
+    ∙ ap is_some (sym c.worked_to.ensures ∙ c.in_err-latest.was))
+
+pub returns : goal.returns
+returns c =
+    let a = c.args in
+    let own : suc (a.m - 1) ≡ a.m = omega (arith, behind (goal.at.returns c).Else-differencing-gt2147483647-2) in
+    single_kept a.section.now a.groups (a.m - 1) (sym c.worked_to.ensures ∙ c.in_ok-latest.was) ∙ ap (single_of (integer_in a.section.now a.groups)) own

@@ -1,14 +1,10 @@
--- `values_group::judge_each` meets its contract. The invariant: the integers from number `from` up to `done` are in their range, `x` and `before` are the
--- last two kept behind them, and `at` is the place of the next packed number.
-use Rattle.std.proofs.Common.{◌-◌, ◌≤◌}
-use Rattle.values_group.specs.declared.Worked.TheVariants as Worked
-use Rattle.values_group.proofs.Wrapped.{course}
-use Rattle.values_group.proofs.Turns.{Reached}
+-- `values_group::judge_each` meets its contract. The invariant: `reached` is what the group keeps behind so many numbers, and the reader stands at the next.
+use Rattle.std.specs.Prelude.{Some}
+use Rattle.values_group.proofs.Wrapped.{course_of}
+use Rattle.values_group.proofs.Turns.{Stands, Reached}
 use Rattle.values_group.proofs.judge_each.Given as goal
 
-abbrev pub invariant-loop-done : goal.invariant-loop-done
-invariant-loop-done l =
-    (l.from ≤ l.done) × (l.done ≤ l.count) × Reached (course l.section l.initial.at.0 l.width l.gain l.latest l.earlier) (l.done - l.from) l.at.0 (Worked.Kept l.x l.before)
-
-abbrev pub decreases-loop-done : goal.decreases-loop-done
-decreases-loop-done l = l.count - l.done
+abbrev pub invariant-loop : goal.invariant-loop
+invariant-loop l =
+    let s = course_of l.section l.fn.group l.gain l.fn.latest in
+    Stands s l.counter l.reader × Reached s l.counter (Some l.reached)

@@ -1,13 +1,11 @@
--- `values_group::judge_fours` meets its contract. The invariant: `x` and `before` are the last two integers behind the first `4 * done`, unless what was seen of them
--- shows that one is out of its range, and `at` is the place of the next four.
-use Rattle.std.proofs.Common.{◌-◌, ◌*◌, ◌≤◌}
-use Rattle.values_group.proofs.Wrapped.{course, unless_seen}
-use Rattle.values_group.proofs.Turns.{Reached}
+-- `values_group::judge_fours` meets its contract. The invariant: `reached` is what the group keeps behind so many fours, unless what was seen of their integers
+-- has a bit too many, and the reader stands at the next four.
+use Rattle.std.proofs.Common.{◌*◌}
+use Rattle.values_group.proofs.Wrapped.{course_of, unless_seen}
+use Rattle.values_group.proofs.Turns.{Stands, Reached}
 use Rattle.values_group.proofs.judge_fours.Given as goal
 
-abbrev pub invariant-loop-done : goal.invariant-loop-done
-invariant-loop-done l =
-    (l.done ≤ l.fours) × Reached (course l.section l.initial.at.0 l.width l.gain l.latest l.earlier) (4 * l.done) l.at.0 (unless_seen l.seen l.x l.before)
-
-abbrev pub decreases-loop-done : goal.decreases-loop-done
-decreases-loop-done l = l.fours - l.done
+abbrev pub invariant-loop : goal.invariant-loop
+invariant-loop l =
+    let s = course_of l.section l.fn.group l.gain l.fn.latest in
+    Stands s (4 * l.counter) l.reader × Reached s (4 * l.counter) (unless_seen l.seen l.reached)

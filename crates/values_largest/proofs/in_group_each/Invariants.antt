@@ -1,13 +1,10 @@
--- `values_largest::in_group_each` meets its contract. The invariant: `x` and `before` are the last two integers from number `from` up to `done`, and `largest` is the
--- largest of them and of what was found before, unless it shows that one is out of its range; `at` is the place of the next packed number.
-use Prim.Native.Nat.{◌-◌, ◌≤◌}
-use Rattle.values_group.proofs.Wrapped.{course}
+-- `values_largest::in_group_each` meets its contract. The invariant: so many of the group's integers are looked at, and the reader stands at the next number.
+use Rattle.values_group.proofs.Wrapped.{course_of}
+use Rattle.values_group.proofs.Turns.{Stands}
 use Rattle.values_largest.proofs.Turns.{Looked}
 use Rattle.values_largest.proofs.in_group_each.Given as goal
 
-abbrev pub invariant-loop-done : goal.invariant-loop-done
-invariant-loop-done l =
-    Looked (course l.section l.initial.at.0 l.width l.gain l.latest l.earlier) l.found (l.done - l.from) l.at.0 l.x l.before l.largest × (l.from ≤ l.done) × (l.done ≤ l.count)
-
-abbrev pub decreases-loop-done : goal.decreases-loop-done
-decreases-loop-done l = l.count - l.done
+abbrev pub invariant-loop : goal.invariant-loop
+invariant-loop l =
+    let s = course_of l.section l.fn.group l.gain l.fn.seen.latest in
+    Stands s l.counter l.reader × Looked s l.fn.seen.largest l.counter l.latest l.largest

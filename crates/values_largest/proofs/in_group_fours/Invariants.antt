@@ -1,13 +1,11 @@
--- `values_largest::in_group_fours` meets its contract. The invariant: `x` and `before` are the last two integers behind the first `4 * done`, and `largest` is the
--- largest of them and of what was found before, unless it shows that one is out of its range; `at` is the place of the next four.
-use Prim.Native.Nat.{◌-◌, ◌*◌, ◌≤◌}
-use Rattle.values_group.proofs.Wrapped.{course}
+-- `values_largest::in_group_fours` meets its contract. The invariant: so many fours of the group's integers are looked at, and the reader stands at the next.
+use Rattle.std.proofs.Common.{◌*◌}
+use Rattle.values_group.proofs.Wrapped.{course_of}
+use Rattle.values_group.proofs.Turns.{Stands}
 use Rattle.values_largest.proofs.Turns.{Looked}
 use Rattle.values_largest.proofs.in_group_fours.Given as goal
 
-abbrev pub invariant-loop-done : goal.invariant-loop-done
-invariant-loop-done l =
-    Looked (course l.section l.initial.at.0 l.width l.gain l.latest l.earlier) l.found (4 * l.done) l.at.0 l.x l.before l.largest × (l.done ≤ l.fours)
-
-abbrev pub decreases-loop-done : goal.decreases-loop-done
-decreases-loop-done l = l.fours - l.done
+abbrev pub invariant-loop : goal.invariant-loop
+invariant-loop l =
+    let s = course_of l.section l.fn.group l.gain l.fn.seen.latest in
+    Stands s (4 * l.counter) l.reader × Looked s l.fn.seen.largest (4 * l.counter) l.latest l.largest

@@ -13,10 +13,8 @@ put_complex-requires c =
     let long = lent_length c.args.bitmap.now c.args.greys.now c.args.n c.requires.sound.3 in
     record { sound = (c.requires.sound.0, c.requires.sound.1, long ∙ c.requires.sound.2); scaled_to = (c.requires.scaled_to.0, λ m l. c.requires.scaled_to.1 m (omega (arith, l, c.requires.sound.2))) }
 
-pub spread-requires : goal.spread-requires
-spread-requires c =
-    let ready = spread_ready c.args.bitmap.now c.args.greys.now c.args.n c.requires.sound.3 _ c.greys-1.given.1 in
-    record { greys_len_bound = ready.0; greys_value = ready.1 }
+pub spread-requires-clause-greys_value : goal.spread-requires-clause-greys_value
+spread-requires-clause-greys_value c = (spread_ready c.args.bitmap.now c.args.greys.now c.args.n c.requires.sound.3 _ c.greys-1.given.1).1
 
 pub returns : goal.returns
 returns c =

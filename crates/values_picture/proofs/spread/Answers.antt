@@ -15,9 +15,6 @@ pub loop-i-init : goal.loop-i-init
 loop-i-init c =
     spread_none (marks_in c.args.bitmap.now) (ranked c.args.bitmap.now) c.args.greys.now c.args.from c.requires.greys_value
 
-pub is_present-requires : goal.is_present-requires
-is_present-requires c = λ some. omega (arith, c.loop-i.invariant.within, c.requires.greys_len_bound.1 some)
-
 -- The point is present, as it was told.
 present : (c : Then-is_present) →
     let a = c.args in
@@ -35,32 +32,14 @@ inside c =
 pub bounds-greys-next : goal.bounds-greys-next
 bounds-greys-next c = omega (arith, inside (goal.at.bounds-greys-next c).Then-is_present, c.loop-i.invariant.kept)
 
-pub bounds-greys-i : goal.bounds-greys-i
-bounds-greys-i c = omega (arith, inside (goal.at.bounds-greys-i c).Then-is_present, c.loop-i.invariant.kept)
-
-pub overflow_add-next : goal.overflow_add-next
-overflow_add-next c = omega (arith, inside (goal.at.overflow_add-next c).Then-is_present)
-
-pub loop-i-smaller-then-is_present : goal.loop-i-smaller-then-is_present
-loop-i-smaller-then-is_present c = omega (arith, inside (goal.at.loop-i-smaller-then-is_present c).Then-is_present)
-
 pub loop-i-preserved-then-is_present : goal.loop-i-preserved-then-is_present
 loop-i-preserved-then-is_present c =
     spread_present (marks_in c.args.bitmap.now) (ranked c.args.bitmap.now) c.args.greys.now c.args.from c.requires.greys_value c.loop-i.invariant (omega arith) (present (goal.at.loop-i-preserved-then-is_present c).Then-is_present)
-
-pub bounds-greys-i-else-is_present : goal.bounds-greys-i-else-is_present
-bounds-greys-i-else-is_present c = omega (arith, c.loop-i.invariant.within, c.loop-i.invariant.kept)
-
-pub loop-i-smaller : goal.loop-i-smaller
-loop-i-smaller c = omega (arith, c.loop-i.invariant.within)
 
 pub loop-i-preserved : goal.loop-i-preserved
 loop-i-preserved c =
     spread_missing (marks_in c.args.bitmap.now) (ranked c.args.bitmap.now) c.args.greys.now c.args.from c.requires.greys_value c.loop-i.invariant (omega arith)
     (omega (arith, (ranked c.args.bitmap.now).few c.loop-i.i, eqb-false ((marks_in c.args.bitmap.now).mark c.loop-i.i) 1 (sym c.is_present.ensures ∙ c.if-is_present.false)))
-
-pub shape_of-greys : goal.shape_of-greys
-shape_of-greys c = c.loop-i.invariant.kept
 
 pub returns : goal.returns
 returns c =
