@@ -1,5 +1,5 @@
 -- What is known of a field that is described: its numbers are within their limits, and its groups are sound. And the test for room.
-use mathlib.Core.Path.{◌≡◌, refl, sym, subst}
+use mathlib.Core.Path.{◌≡◌, refl, sym, ap, subst, ◌∙◌}
 use mathlib.Core.Bool.{true, false}
 use mathlib.Core.List.{List}
 use Prim.Native.Nat.{ℕ, ◌+◌, ◌-◌, ◌*◌, ◌^◌, ◌≤◌, ◌<◌}
@@ -21,23 +21,26 @@ use Rattle.section_5_groups.specs.declared.Grouping.{Grouping}
 use Rattle.section_5_groups.proofs.Laws.{Grouped}
 use Rattle.section_5.specs.declared.Template.{Template}
 use Rattle.section_5.proofs.Laws.{represented, represented_bits, represented_groups}
-use Rattle.section_6.specs.Presence.{present_before}
-use Rattle.section_6.proofs.Laws.{marked_present, marked_most}
+use Rattle.section_6.specs.declared.Presence as declared
+use Rattle.section_6.specs.declared.Presence.TheVariants as Presence
+use Rattle.section_6.specs.Presence.{present_before, presence_at, bitmap_in_force, BitmapLies}
+use Rattle.section_6.proofs.Laws.{marked_present, marked_most, marked_own, marked_earlier}
 use Rattle.section_7_layout.proofs.Laws.{stored_fits}
 use Rattle.section_7.specs.declared.Groups.{Groups}
 use Rattle.section_7.specs.declared.Data.TheVariants as Data
-use Rattle.section_7.specs.declared.Packed.TheVariants as Packed
 use Rattle.section_7.specs.Packing.{groups_in, data_at}
 use Rattle.section_7.proofs.Laws.{packed_simple, packed_complex, packed_plan, limited}
 use Rattle.values_integers.specs.Integers.{simple_integer, are_in_range}
 use Rattle.values_integers.proofs.Range.{in_range_all}
 use Rattle.values_complex.specs.Complex.{values_in, integer_in, Sound}
 use Rattle.question.specs.declared.Description.{Description}
-use Rattle.question.specs.declared.Described.TheVariants as Described
 use Rattle.question.specs.Judged.{Judged}
 use Rattle.question.specs.Describe.{refused_at}
 use Rattle.question.specs.Judge.{Known, integer_of, is_decodable, has_room, values_asked}
 use Rattle.question.proofs.Laws.{FieldOf, described, described_laid, described_grid}
+use Rattle.std.specs.Prelude.{Some, Ok}
+use Rattle.octets.specs.declared.FilePlace.{FilePlace}
+use Rattle.question.specs.declared.DescribedField.{DescribedField}
 
 -- There is no room where the points pass the end of one of the runs, and where the values have room the marks decide.
 module _ (start points values presence : ℕ) where
@@ -61,8 +64,12 @@ module _ (file : List ℕ) (start values presence : ℕ) (d : Description) where
   pub asked_outside : has_room start (points_of d.grid) values presence ≡ true → is_decodable file d ≡ false → refused_at Why.ValueOutOfRange d.starts.seven.0 ≡ values_asked file start values presence d
   asked_outside room e = rw (room, e)
 
-  pub asked_given : has_room start (points_of d.grid) values presence ≡ true → is_decodable file d ≡ true → Described.As d ≡ values_asked file start values presence d
+  pub asked_given : has_room start (points_of d.grid) values presence ≡ true → is_decodable file d ≡ true → Ok d ≡ values_asked file start values presence d
   asked_given room e = rw (room, e)
+
+-- The description that a field has is known.
+pub known_of : (f : DescribedField) → Known f.file.now f.description
+known_of f = (f.k, f.described)
 
 module _ (file : List ℕ) (d : Description) (known : Known file d) where
   abbrev seven : ℕ
@@ -103,8 +110,27 @@ module _ (file : List ℕ) (d : Description) (known : Known file d) where
   pub packed_most : d.representation.n ≤ points
   packed_most = marked_most file located.0.starts.six.0 located.0.bitmap points d.representation.n judged.of_six
 
-  holds : data_at file seven d.representation ≡ Packed.As d.plan
-  holds = subst (λ (s : Starts). data_at file s.seven.0 d.representation ≡ Packed.As d.plan) (sym judged.of_starts) judged.of_seven
+  -- The bitmap that tells which points are present, where it does.
+  abbrev pub bitmap : List ℕ
+  bitmap = bitmap_in_force file d.presence points
+
+  pub bitmap_lies : BitmapLies file d.presence points
+  bitmap_lies = by d.presence refl
+    where
+      taken : (p : declared.Presence) → d.presence ≡ p → presence_at file located.0.starts.six.0 located.0.bitmap points d.representation.n ≡ Some p
+      taken p e = judged.of_six ∙ ap Some e
+
+      by : (p : declared.Presence) → d.presence ≡ p → BitmapLies file p points
+      by Presence.All e = refl
+      by (Presence.Own s) e =
+          let told = marked_own file located.0.starts.six.0 located.0.bitmap points d.representation.n (taken (Presence.Own s) e) in
+          (subst (λ (p : FilePlace). Lies file p.0) (sym told.0) sections_laid.six, told.1)
+      by (Presence.Earlier s) e =
+          let told = marked_earlier file located.0.starts.six.0 located.0.bitmap points d.representation.n (taken (Presence.Earlier s) e) in
+          (sections_laid.stored s told.0, told.1)
+
+  holds : data_at file seven d.representation ≡ Some d.plan
+  holds = subst (λ (s : Starts). data_at file s.seven.0 d.representation ≡ Some d.plan) (sym judged.of_starts) judged.of_seven
 
   -- What section 7 holds is of the template that section 5 tells.
   pub simple_template : d.plan ≡ Data.Simple → d.representation.template ≡ Template.Simple

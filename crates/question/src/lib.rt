@@ -3,24 +3,23 @@
 // refused.
 #![tactic(auto)]
 
-ghost use Rattle.std.specs.Prelude.{◌≡◌, ◌≤◌};
-ghost use Rattle.calendar.specs.Calendar.{Gregorian};
+ghost use Rattle.std.specs.Prelude.{◌≡◌, ◌≤◌, Ok};
+ghost use Rattle.section.specs.Sections.{Lies, octets_in};
 ghost use Rattle.tiling_sections.specs.Laid.{Laid};
 ghost use Rattle.section_3_geometry.specs.Geometry.{points_of};
-ghost use Rattle.section_7.specs.Packing.{LimitedBy};
-ghost use Rattle.question.specs.Describe.{represented, gridded, described_at, describe};
-ghost use Rattle.question.specs.Judge.{Asks, Known, has_room, is_decodable, values_asked, description_length, numbers_asked, judge};
+ghost use Rattle.section_6.specs.Presence.{bitmap_in_force};
+ghost use Rattle.question.specs.Describe.{described_at, describe};
+ghost use Rattle.question.specs.Judge.{Asks, has_room, is_decodable, values_asked, description_length, numbers_asked, judge};
 
 use octets::{FilePlace, OctetNumber};
 use refusals::{Refusal, Why};
-use section_1::{Identification, Identified};
-use section_3::Gridded;
+use section::FileSection;
+use section_1::Identification;
 use section_3_geometry::Grid;
-use section_4::{Defined, ProductDefinition};
-use section_5::{Representation, Represented};
-use section_6::{Marked, Presence};
-use section_7::{Data, Packed};
-use tiling::Found;
+use section_4::ProductDefinition;
+use section_5::Representation;
+use section_6::Presence;
+use section_7::Data;
 use tiling_sections::{Located, Starts};
 
 // All that is said of a field: the discipline from section 0, what sections 1, 3, 4 and 5 in force for it say, which of its points are present, what
@@ -37,48 +36,99 @@ pub struct Description {
     pub starts: Starts,
 }
 
+// A field of a file: the file, the field's number there, and what `describe` says of it.
 #[derive(Clone, Copy)]
-pub enum Described {
-    As(Description),
-    Refused(Refusal),
+pub struct DescribedField<'a> {
+    pub file: &'a [u8],
+    pub k: usize,
+    pub description: Description,
+    ghost described: { describe file.now k ≡ Ok description },
 }
 
-fn refused(why: Why, place: FilePlace) -> Described
-    ensures { result ≡ Described.Refused (record { why = why; place = place }) }
+impl<'a> DescribedField<'a> {
+    // How many points it has.
+    pub fn points(&self) -> u32
+        ensures { (result ≡ points_of self.now.description.grid) × (result ≤ 16777216) }
+    {
+        section_3_geometry::points_of(self.description.grid)
+    }
+
+    // The octets of its section 7, in which its integers are packed.
+    pub fn packed(&self) -> &'a [u8]
+        ensures { result.now ≡ octets_in self.now.file.now self.now.description.starts.seven.0 }
+    {
+        FileSection {
+            file: self.file,
+            at: self.description.starts.seven,
+        }
+        .octets()
+    }
+
+    // The bitmap that tells which of its points are present: empty where all are.
+    pub fn bitmap(&self) -> &'a [u8]
+        ensures { result.now ≡ bitmap_in_force self.now.file.now self.now.description.presence (points_of self.now.description.grid) }
+    {
+        section_6::bitmap_in_force(self.file, self.description.presence, self.points())
+    }
+
+    // Is every integer X of the field in its range?
+    fn is_decodable(&self) -> bool
+        ensures { result ≡ is_decodable self.now.file.now self.now.description }
+    {
+        match self.description.plan {
+            Data::Simple => true,
+            Data::Complex(groups) => {
+                values_complex::is_in_range(
+                    self.packed(),
+                    groups,
+                    self.description.representation.n as u64,
+                )
+            }
+        }
+    }
+}
+
+fn section_of<'a>(file: &'a [u8], at: FilePlace) -> FileSection<'a>
+    requires { Lies file.now at.0 }
+    ensures { (result.file ≡ file.entry) × (result.at ≡ at) }
 {
-    Described::Refused(Refusal { why, place })
+    FileSection { file, at }
 }
 
-// Sections 6 and 7, behind all others: 13 and 14.
-fn packed_in(
-    file: &[u8],
-    located: Located,
-    identification: Identification,
-    grid: Grid,
-    definition: ProductDefinition,
-    representation: Representation,
-) -> Described
-    requires { (Laid file.now located) × (points_of grid ≤ 16777216) × (LimitedBy representation.bits representation.template) }
-    ensures { result ≡ represented file.now located identification grid definition (Represented.By representation) }
+// The sections of a field that was found, in the order of their refusals: 9 to 14.
+#[tactic(auto, using(section_1::proofs::Laws::identified_gregorian, section_3::proofs::Laws::grid_few, section_7::proofs::Laws::limited), unfolding(crate::specs::Describe::described_at))]
+fn described_at(file: &[u8], located: Located) -> Result<Description, Refusal>
+    requires { Laid file.now located }
+    ensures { result ≡ described_at file.now located }
 {
     let starts = located.starts;
-    let bitmap = located.bitmap;
-    let points = section_3_geometry::points_of(grid);
-    let Marked::As(presence) = section_6::presence_at(
-        file,
-        starts.six,
+    let identification = section_1::identification_at(section_of(file, starts.one)).ok_or(
+        Why::BadIdentification.at(starts.one),
+    )?;
+    let grid = section_3::grid_at(section_of(file, starts.three)).ok_or(Why::BadGrid.at(
+        starts.three,
+    ))?;
+    let reference = identification.reference;
+    let definition = section_4::product_definition_at(
+        section_of(file, starts.four),
+        reference,
+    ).ok_or(Why::BadProduct.at(starts.four))?;
+    let representation = section_5::representation_at(section_of(file, starts.five)).ok_or(
+        Why::BadRepresentation.at(starts.five),
+    )?;
+    let (bitmap, points) = (located.bitmap, section_3_geometry::points_of(grid));
+    let presence = section_6::presence_at(
+        section_of(file, starts.six),
         bitmap,
         points,
         representation.n,
-    ) else {
-        return refused(Why::BadBitmap, starts.six);
-    };
-    let Packed::As(plan) = section_7::data_at(file, starts.seven, representation) else {
-        return refused(Why::BadPacking, starts.seven);
-    };
-    let discipline = section::octet(file, starts.zero, OctetNumber(7));
-    Described::As(Description {
-        discipline,
+    )
+    .ok_or(Why::BadBitmap.at(starts.six))?;
+    let plan = section_7::data_at(section_of(file, starts.seven), representation).ok_or(
+        Why::BadPacking.at(starts.seven),
+    )?;
+    Ok(Description {
+        discipline: section::octet(file, starts.zero, OctetNumber(7)),
         identification,
         grid,
         definition,
@@ -89,125 +139,41 @@ fn packed_in(
     })
 }
 
-// Sections 4 and 5, and those behind them: 11 and 12.
-fn defined_in(
-    file: &[u8],
-    located: Located,
-    identification: Identification,
-    grid: Grid,
-) -> Described
-    requires { (Laid file.now located) × (Gregorian identification.reference) × (points_of grid ≤ 16777216) }
-    ensures { result ≡ gridded file.now located identification (Gridded.On grid) }
-{
-    let starts = located.starts;
-    let Defined::As(definition) = section_4::product_definition_at(
-        file,
-        starts.four,
-        identification.reference,
-    ) else {
-        return refused(Why::BadProduct, starts.four);
-    };
-    let Represented::By(representation) = section_5::representation_at(file, starts.five) else {
-        return refused(Why::BadRepresentation, starts.five);
-    };
-    packed_in(
-        file,
-        located,
-        identification,
-        grid,
-        definition,
-        representation,
-    )
-}
-
-// The sections of a field that was found, in the order of their refusals: 9 and 10 come first.
-fn described_at(file: &[u8], located: Located) -> Described
-    requires { Laid file.now located }
-    ensures { result ≡ described_at file.now located }
-{
-    let starts = located.starts;
-    let Identified::As(identification) = section_1::identification_at(file, starts.one) else {
-        return refused(Why::BadIdentification, starts.one);
-    };
-    let Gridded::On(grid) = section_3::grid_at(file, starts.three) else {
-        return refused(Why::BadGrid, starts.three);
-    };
-    defined_in(file, located, identification, grid)
-}
-
 // Describes field `k`, counted from 0 over all messages: the whole description, or refusal 1 to 14.
-pub fn describe(file: &[u8], k: usize) -> Described
+pub fn describe(file: &[u8], k: usize) -> Result<Description, Refusal>
     ensures { result ≡ describe file.now k }
 {
-    match tiling::find(file, k) {
-        Found::Tiled {
-            messages: _,
-            fields,
-            hit,
-        } => {
-            if k < fields {
-                return described_at(file, hit);
-            }
-            refused(Why::NoSuchField, FilePlace(0))
-        }
-        Found::Refused(refusal) => Described::Refused(refusal),
+    let tiled = tiling::find(file, k)?;
+    if tiled.fields <= k {
+        return Err(Why::NoSuchField.at(FilePlace(0)));
     }
+    described_at(file, tiled.hit)
 }
 
 // Do so many points fit from `start` on into runs of these lengths?
 fn has_room(start: usize, points: u32, values: usize, presence: usize) -> bool
     ensures { result ≡ has_room start points values presence }
 {
-    if values < start {
-        return false;
-    }
-    if presence < start {
-        return false;
-    }
-    if values - start < points as usize {
-        return false;
-    }
-    points as usize <= presence - start
+    let points = points as usize;
+    start <= values && start <= presence && points <= values - start && points <= presence - start
 }
 
-// Is every integer X of the field in its range?
-fn is_decodable(file: &[u8], description: Description) -> bool
-    requires { Known file.now description }
-    ensures { result ≡ is_decodable file.now description }
-{
-    let plan = description.plan;
-    let starts = description.starts;
-    let representation = description.representation;
-    match plan {
-        Data::Simple => true,
-        Data::Complex(groups) => values_complex::is_in_range(
-            section::octets_in(file, starts.seven),
-            groups,
-            representation.n as u64,
-        ),
-    }
-}
-
-// All values of a field that is described: 15, and then 16.
+// All values of a field: 15, and then 16.
 fn values_asked(
-    file: &[u8],
-    description: Description,
+    field: DescribedField,
     start: usize,
     values: usize,
     presence: usize,
-) -> Described
-    requires { Known file.now description }
-    ensures { result ≡ values_asked file.now start values presence description }
+) -> Result<Description, Refusal>
+    ensures { result ≡ values_asked field.entry.file.now start values presence field.entry.description }
 {
-    let grid = description.grid;
-    let starts = description.starts;
-    if !has_room(start, section_3_geometry::points_of(grid), values, presence) {
-        return refused(Why::NoRoom, FilePlace(0));
+    if !has_room(start, field.points(), values, presence) {
+        return Err(Why::NoRoom.at(FilePlace(0)));
     }
-    if !is_decodable(file, description) {
-        return refused(Why::ValueOutOfRange, starts.seven);
+    if !field.is_decodable() {
+        return Err(Why::ValueOutOfRange.at(field.description.starts.seven));
     }
-    Described::As(description)
+    Ok(field.description)
 }
 
 // How many numbers tell a description to C: those of a Lambert grid come behind the others.
@@ -221,24 +187,20 @@ fn description_length(grid: Grid) -> usize
 }
 
 // The numbers of a field that is described, for a run of this length: 15.
-fn numbers_asked(description: Description, room: usize) -> Described
+fn numbers_asked(description: Description, room: usize) -> Result<Description, Refusal>
     ensures { result ≡ numbers_asked room description }
 {
-    let grid = description.grid;
-    if room < description_length(grid) {
-        return refused(Why::NoRoom, FilePlace(0));
+    if room < description_length(description.grid) {
+        return Err(Why::NoRoom.at(FilePlace(0)));
     }
-    Described::As(description)
+    Ok(description)
 }
 
 // Judges whether the numbers of field `k` are to be put into a run of this length: its description, or refusal 1 to 14 or 15.
-pub fn judge_numbers(file: &[u8], k: usize, room: usize) -> Described
+pub fn judge_numbers(file: &[u8], k: usize, room: usize) -> Result<Description, Refusal>
     ensures { result ≡ judge file.now k (Asks.Numbers room) }
 {
-    match describe(file, k) {
-        Described::As(description) => numbers_asked(description, room),
-        Described::Refused(refusal) => Described::Refused(refusal),
-    }
+    numbers_asked(describe(file, k)?, room)
 }
 
 // Judges whether the values of field `k` are to be put into runs of these lengths, from `start` on: its description, or refusal 1 to 14, 15 or 16. Each of these two
@@ -249,11 +211,18 @@ pub fn judge_values(
     start: usize,
     values: usize,
     presence: usize,
-) -> Described
+) -> Result<Description, Refusal>
     ensures { result ≡ judge file.now k (Asks.Values start values presence) }
 {
-    match describe(file, k) {
-        Described::As(description) => values_asked(file, description, start, values, presence),
-        Described::Refused(refusal) => Described::Refused(refusal),
-    }
+    let description = describe(file, k)?;
+    values_asked(
+        DescribedField {
+            file,
+            k,
+            description,
+        },
+        start,
+        values,
+        presence,
+    )
 }

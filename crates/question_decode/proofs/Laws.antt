@@ -1,5 +1,5 @@
 -- What is known of a field that is judged, for its decoding: its rows of doubles and marks are those that the fillings write.
-use mathlib.Core.Path.{◌≡◌, refl, sym, ap, ap₂, ◌∙◌, subst}
+use mathlib.Core.Path.{◌≡◌, refl, sym, ap, ap₂, ◌∙◌}
 use mathlib.Core.List.{List}
 use Prim.Native.Nat.{ℕ, ◌+◌, ◌-◌, ◌≤◌, ◌<◌}
 use native.Mathlib.Numerals.{add-one}
@@ -11,16 +11,13 @@ use borrow.Rule.Slice.PartMut.{put_mid}
 use Rattle.bits.proofs.Laws.{bit_lt}
 use Rattle.laws_rows.specs.Rows.{laid}
 use Rattle.laws_rows.proofs.Laws.{row_length, row_same, part_laid}
-use Rattle.octets.specs.declared.FilePlace.{FilePlace}
-use Rattle.section.specs.Sections.{Lies, octets_in}
+use Rattle.section.specs.Sections.{octets_in}
 use Rattle.tiling.specs.Tiling.{largest}
 use Rattle.section_3_geometry.specs.Geometry.{points_of}
 use Rattle.section_5.specs.declared.Template.TheVariants as Template
-use Rattle.section_6.specs.declared.Marked.TheVariants as Marked
 use Rattle.section_6.specs.declared.Presence as declared
 use Rattle.section_6.specs.declared.Presence.TheVariants as Presence
-use Rattle.section_6.specs.Presence.{present_at, present_before, presence_at, bitmap_in_force, BitmapLies}
-use Rattle.section_6.proofs.Laws.{marked_own, marked_earlier}
+use Rattle.section_6.specs.Presence.{present_at, present_before, BitmapLies}
 use Rattle.section_7.specs.declared.Groups.{Groups}
 use Rattle.section_7.specs.declared.Data.TheVariants as Data
 use Rattle.values_points.specs.Points.{point_value, double_at}
@@ -30,12 +27,12 @@ use Rattle.values_points.proofs.Marks.{Ranked, field_marks_lem, field_ranks}
 use Rattle.values_integers.specs.Integers.{simple_integer}
 use Rattle.values_complex.specs.Complex.{size_in}
 use Rattle.question.specs.declared.Description.{Description}
-use Rattle.question.specs.declared.Described.{Described}
 use Rattle.question.specs.Judge.{Asks, Known, integer_of, judge}
 use Rattle.question.proofs.Laws.{judge_placed, judged_values}
-use Rattle.question.proofs.Known.{located, judged, sections_laid, few_points, packed_present, simple_template, groups_integers}
-use Rattle.question_decode.specs.declared.Decoded.{Decoded}
+use Rattle.question.proofs.Known.{few_points, bitmap, bitmap_lies, packed_present, simple_template, groups_integers}
 use Rattle.question_decode.specs.Decoding.{packing_by, present_of, rank_of, double_of, doubles_of, marks_of, outcome_by, outcome, answer_of}
+use Rattle.std.specs.Prelude.{Result, Ok, Err}
+use Rattle.refusals.specs.declared.Refusal.{Refusal}
 
 module _ (file : List ℕ) (d : Description) (known : Known file d) where
   abbrev run : List ℕ
@@ -44,39 +41,27 @@ module _ (file : List ℕ) (d : Description) (known : Known file d) where
   abbrev points : ℕ
   points = points_of d.grid
 
-  -- The bitmap that tells which points are present, where it does.
-  abbrev pub bitmap : List ℕ
-  bitmap = bitmap_in_force file d.presence points
+  -- The bitmap that tells which points are present lies in the file, where one does.
+  abbrev marking : List ℕ
+  marking = bitmap file d known
 
-  pub bitmap_lies : BitmapLies file d.presence points
-  bitmap_lies = by d.presence refl
-    where
-      taken : (p : declared.Presence) → d.presence ≡ p → presence_at file (located file d known).0.starts.six.0 (located file d known).0.bitmap points d.representation.n ≡ Marked.As p
-      taken p e = (judged file d known).of_six ∙ ap Marked.As e
-
-      by : (p : declared.Presence) → d.presence ≡ p → BitmapLies file p points
-      by Presence.All e = refl
-      by (Presence.Own s) e =
-          let told = marked_own file (located file d known).0.starts.six.0 (located file d known).0.bitmap points d.representation.n (taken (Presence.Own s) e) in
-          (subst (λ (p : FilePlace). Lies file p.0) (sym told.0) (sections_laid file d known).six, told.1)
-      by (Presence.Earlier s) e =
-          let told = marked_earlier file (located file d known).0.starts.six.0 (located file d known).0.bitmap points d.representation.n (taken (Presence.Earlier s) e) in
-          ((sections_laid file d known).stored s told.0, told.1)
+  lies : BitmapLies file d.presence points
+  lies = bitmap_lies file d known
 
   -- As many integers are packed as points are present.
-  pub packed_marked : d.representation.n ≡ (marks_in bitmap).rank points
-  packed_marked = packed_present file d known ∙ field_ranks file d.presence points bitmap_lies points (omega arith)
+  pub packed_marked : d.representation.n ≡ (marks_in marking).rank points
+  packed_marked = packed_present file d known ∙ field_ranks file d.presence points lies points (omega arith)
 
   -- The runs that are filled with the field's integers by its marks are the rows of the field.
   pub field_rows : {x : ℕ → ℕ} (before : Runs) {after : Runs} → ((m : ℕ) → x m ≡ nat_abs (integer_of file d m)) → length before.doubles ≡ points →
-      Filled (marks_in bitmap) (packing_by d.representation) x before after → (after.doubles ≡ doubles_of file d) × (after.marks ≡ marks_of file d)
+      Filled (marks_in marking) (packing_by d.representation) x before after → (after.doubles ≡ doubles_of file d) × (after.marks ≡ marks_of file d)
   field_rows {x} before same long filled =
-      let marks = field_marks_lem file d.presence points bitmap_lies in
-      let ranks = field_ranks file d.presence points bitmap_lies in
+      let marks = field_marks_lem file d.presence points lies in
+      let ranks = field_ranks file d.presence points lies in
       let rows = rw long at filled in (
-        rows.0 ∙ row_same (double_at (packing_by d.representation) x (marks_in bitmap).mark (marks_in bitmap).rank) (double_of file d) points
+        rows.0 ∙ row_same (double_at (packing_by d.representation) x (marks_in marking).mark (marks_in marking).rank) (double_of file d) points
             (λ i l. ap₂ (point_value (packing_by d.representation)) (sym (marks i l)) (ap x (sym (ranks i (omega arith))) ∙ same (rank_of file d i))),
-        rows.1 ∙ row_same (marks_in bitmap).mark (present_of file d) points (λ i l. sym (marks i l)),
+        rows.1 ∙ row_same (marks_in marking).mark (present_of file d) points (λ i l. sym (marks i l)),
       )
 
   pub simple_size : d.plan ≡ Data.Simple → (m : ℕ) → simple_integer run d.representation.bits m ≡ nat_abs (integer_of file d m)
@@ -116,13 +101,13 @@ module _ (file : List ℕ) (d : Description) (start end : ℕ) (points : end - s
   presence_laid presence stretch e = part_laid start end presence stretch (marks_of file d) e (row_length (present_of file d) (points_of d.grid) ∙ sym points)
 
 -- An answer of decode: its point count is that of a grid that is taken, and a refusal is placed within the largest file that is taken.
-abbrev pub Small : Decoded → Type 0
-Small (Decoded.Points points) = points ≤ 16777216
-Small (Decoded.Refused r) = r.place.0 ≤ largest
+abbrev pub Small : Result ℕ Refusal → Type 0
+Small (Ok points) = points ≤ 16777216
+Small (Err r) = r.place.0 ≤ largest
 
 pub decode_small : (file : List ℕ) (k start values presence : ℕ) → Small (answer_of (outcome file k start values presence))
 decode_small file k start values presence = by (judge file k (Asks.Values start values presence)) refl
   where
-    by : (a : Described) → judge file k (Asks.Values start values presence) ≡ a → Small (answer_of (outcome_by file a))
-    by (Described.As d) said = few_points file d (k, (judged_values file k start values presence said).0)
-    by (Described.Refused r) said = judge_placed file k (Asks.Values start values presence) said
+    by : (a : Result Description Refusal) → judge file k (Asks.Values start values presence) ≡ a → Small (answer_of (outcome_by file a))
+    by (Ok d) said = few_points file d (k, (judged_values file k start values presence said).0)
+    by (Err r) said = judge_placed file k (Asks.Values start values presence) said

@@ -1,5 +1,5 @@
 -- RULES, "From X to a double": the question decode. Integers and presence come first, and the doubles are made from them.
-use Rattle.std.specs.Prelude.{ℕ, ◌≡◌, true, List, nat_abs, length, Float}
+use Rattle.std.specs.Prelude.{ℕ, ◌≡◌, true, List, nat_abs, length, Float, Result, Ok, Err}
 use Rattle.laws_rows.specs.Rows.{row, laid}
 use Rattle.refusals.specs.declared.Refusal.{Refusal}
 use Rattle.doubles.specs.declared.Packing.{Packing}
@@ -9,9 +9,7 @@ use Rattle.section_5.specs.declared.Representation.{Representation}
 use Rattle.section_6.specs.Presence.{present_at, present_before}
 use Rattle.values_points.specs.Points.{double_at}
 use Rattle.question.specs.declared.Description.{Description}
-use Rattle.question.specs.declared.Described.{Described}
 use Rattle.question.specs.Judge.{Asks, Known, integer_of, is_decodable, judge}
-use Rattle.question_decode.specs.declared.Decoded.{Decoded}
 
 -- The packing record by the numbers of section 5.
 abbrev pub packing_by : Representation → Packing
@@ -49,18 +47,18 @@ pub data Outcome : Type 0 where
   gives : ℕ → List Float → List ℕ → Outcome
   refuses : Refusal → Outcome
 
-abbrev pub outcome_by : List ℕ → Described → Outcome
-outcome_by file (Described.As d) = gives (points_of d.grid) (doubles_of file d) (marks_of file d)
-outcome_by file (Described.Refused r) = refuses r
+abbrev pub outcome_by : List ℕ → Result Description Refusal → Outcome
+outcome_by file (Ok d) = gives (points_of d.grid) (doubles_of file d) (marks_of file d)
+outcome_by file (Err r) = refuses r
 
 -- The outcome for field k, with runs of these lengths.
 abbrev pub outcome : List ℕ → ℕ → ℕ → ℕ → ℕ → Outcome
 outcome file k start values presence = outcome_by file (judge file k (Asks.Values start values presence))
 
 -- The answer.
-abbrev pub answer_of : Outcome → Decoded
-answer_of (gives points doubles marks) = Decoded.Points points
-answer_of (refuses r) = Decoded.Refused r
+abbrev pub answer_of : Outcome → Result ℕ Refusal
+answer_of (gives points doubles marks) = Ok points
+answer_of (refuses r) = Err r
 
 -- What the whole runs hold: the field's stretch from the start index on, and all else as it was.
 abbrev pub values_after : ℕ → List Float → Outcome → List Float
@@ -72,7 +70,7 @@ presence_after start presence (gives points doubles marks) = laid presence start
 presence_after start presence (refuses r) = presence
 
 -- The answer of a call, by the lengths of its two runs.
-abbrev pub answer : List ℕ → ℕ → ℕ → ℕ → ℕ → Decoded
+abbrev pub answer : List ℕ → ℕ → ℕ → ℕ → ℕ → Result ℕ Refusal
 answer file k start values presence = answer_of (outcome file k start values presence)
 
 -- What its two runs hold afterwards, by what they held before.

@@ -6,21 +6,14 @@ ghost use Rattle.std.specs.Prelude.{◌≡◌, true, length};
 ghost use Rattle.laws_rows.specs.Rows.{laid};
 ghost use Rattle.doubles.specs.Doubles.{Scaled};
 ghost use Rattle.section_3_geometry.specs.Geometry.{points_of};
-ghost use Rattle.question.specs.Judge.{has_room};
-ghost use Rattle.question_decode.specs.Decoding.{Decodable, Stretch, packing_by, doubles_of, marks_of, answer, values_left, presence_left};
+ghost use Rattle.question.specs.Judge.{has_room, is_decodable};
+ghost use Rattle.question_decode.specs.Decoding.{Stretch, packing_by, doubles_of, marks_of, answer, values_left, presence_left};
 
 use doubles::Packing;
-use question::{Described, Description};
+use question::DescribedField;
 use refusals::Refusal;
 use section_5::Representation;
 use section_7::Data;
-
-// The point count of the field that was decoded.
-#[derive(Clone, Copy)]
-pub enum Decoded {
-    Points(u32),
-    Refused(Refusal),
-}
 
 // The packing record of section 5's numbers.
 pub fn packing_of(representation: Representation) -> Packing
@@ -33,25 +26,28 @@ pub fn packing_of(representation: Representation) -> Packing
 }
 
 // Fills the field's stretch of both runs.
-fn fill(file: &[u8], description: Description, values: &mut [f64], presence: &mut [u8])
-    requires decodable { Decodable file.now description }
-    requires stretch { Stretch description values.old presence.old }
-    ensures values_after { values.new ≡ doubles_of file.now description }
-    ensures presence_after { presence.new ≡ marks_of file.now description }
+fn fill(field: DescribedField, values: &mut [f64], presence: &mut [u8])
+    requires decodable { is_decodable field.file.now field.description ≡ true }
+    requires stretch { Stretch field.description values.old presence.old }
+    ensures values_after { values.new ≡ doubles_of field.entry.file.now field.entry.description }
+    ensures presence_after { presence.new ≡ marks_of field.entry.file.now field.entry.description }
 {
-    let representation = description.representation;
-    let plan = description.plan;
-    let starts = description.starts;
-    let grid = description.grid;
-    let marks = description.presence;
-    let n = representation.n as u64;
+    let representation = field.description.representation;
     let packing = packing_of(representation);
-    let section = section::octets_in(file, starts.seven);
-    let bitmap = section_6::bitmap_in_force(file, marks, section_3_geometry::points_of(grid));
-    match plan {
+    let section = field.packed();
+    let bitmap = field.bitmap();
+    match field.description.plan {
         Data::Simple => {
-            let bits = representation.bits;
-            values_simple::fill(section, bitmap, bits, n, packing, values, presence);
+            let n = representation.n as u64;
+            values_simple::fill(
+                section,
+                bitmap,
+                representation.bits,
+                n,
+                packing,
+                values,
+                presence,
+            );
         }
         Data::Complex(groups) => {
             values_complex::fill(section, bitmap, groups, packing, values, presence);
@@ -61,27 +57,20 @@ fn fill(file: &[u8], description: Description, values: &mut [f64], presence: &mu
 
 // Decodes a field that is judged, into its stretch of both runs, and answers its point count.
 fn decode_judged(
-    file: &[u8],
-    description: Description,
+    field: DescribedField,
     start: usize,
     values: &mut [f64],
     presence: &mut [u8],
 ) -> u32
-    requires decodable { Decodable file.now description }
-    requires presence_value { has_room start (points_of description.grid) (length values.old) (length presence.old) ≡ true }
-    ensures value { result ≡ points_of description.grid }
-    ensures values_after { values.new ≡ laid values.old start (doubles_of file.now description) }
-    ensures presence_after { presence.new ≡ laid presence.old start (marks_of file.now description) }
+    requires decodable { is_decodable field.file.now field.description ≡ true }
+    requires presence_value { has_room start (points_of field.description.grid) (length values.old) (length presence.old) ≡ true }
+    ensures value { result ≡ points_of field.entry.description.grid }
+    ensures values_after { values.new ≡ laid values.old start (doubles_of field.entry.file.now field.entry.description) }
+    ensures presence_after { presence.new ≡ laid presence.old start (marks_of field.entry.file.now field.entry.description) }
 {
-    let grid = description.grid;
-    let points = section_3_geometry::points_of(grid);
+    let points = field.points();
     let end = start + points as usize;
-    fill(
-        file,
-        description,
-        &mut values[start..end],
-        &mut presence[start..end],
-    );
+    fill(field, &mut values[start..end], &mut presence[start..end]);
     points
 }
 
@@ -93,15 +82,20 @@ pub fn decode(
     start: usize,
     values: &mut [f64],
     presence: &mut [u8],
-) -> Decoded
+) -> Result<u32, Refusal>
     ensures value { result ≡ answer file.now k start (length values.old) (length presence.old) }
     ensures values_after { values.new ≡ values_left file.now k start values.old presence.old }
     ensures presence_after { presence.new ≡ presence_left file.now k start values.old presence.old }
 {
-    match question::judge_values(file, k, start, values.len(), presence.len()) {
-        Described::As(description) => {
-            Decoded::Points(decode_judged(file, description, start, values, presence))
-        }
-        Described::Refused(refusal) => Decoded::Refused(refusal),
-    }
+    let description = question::judge_values(file, k, start, values.len(), presence.len())?;
+    Ok(decode_judged(
+        DescribedField {
+            file,
+            k,
+            description,
+        },
+        start,
+        values,
+        presence,
+    ))
 }

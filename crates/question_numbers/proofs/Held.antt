@@ -19,21 +19,20 @@ use Rattle.section_3_lambert.specs.Lambert as Lambert
 use Rattle.section_3_lambert.specs.Sheet.{sheet_of}
 use Rattle.section_3_lambert.proofs.Laws as sheet
 use Rattle.section_3.proofs.Laws.{Passes}
-use Rattle.section_4.specs.declared.Level as declaredLevel
-use Rattle.section_4.specs.declared.LevelReading.TheVariants as LevelReading
+use Rattle.section_4.specs.declared.Level.{Level}
 use Rattle.section_4.specs.Product.{level_at}
 use Rattle.section_4.proofs.Laws.{defined_tells, level_read}
 use Rattle.question.specs.declared.Description.{Description}
-use Rattle.question.specs.declared.Described.TheVariants as Described
 use Rattle.question.specs.Describe.{describe}
 use Rattle.question.proofs.Laws.{described, described_laid, described_grid}
 use Rattle.question.proofs.Known.{scaled}
 use Rattle.question_numbers.specs.Held.{LatitudesHeld, SheetHeld, factor_size, StartsHeld, Held}
+use Rattle.std.specs.Prelude.{Option, Some, Ok}
 
 -- One octet holds the factor of a level.
-level_held_lem : (file : List ℕ) (s : ℕ) (level : declaredLevel.Level) → level_at file s ≡ LevelReading.Is level → factor_size level ≤ 127
+level_held_lem : (file : List ℕ) (s : ℕ) (level : Option Level) → level_at file s ≡ Some level → factor_size level ≤ 127
 level_held_lem file s level e =
-    level_read file s (λ (l : declaredLevel.Level). factor_size l ≤ 127) level e (λ _. omega arith) (λ _. omega (arith, mod-lt (held file s 24 24) {m = 128} (omega arith)))
+    level_read file s (λ (l : Option Level). factor_size l ≤ 127) level e (λ _. omega arith) (λ _. omega (arith, mod-lt (held file s 24 24) {m = 128} (omega arith)))
 
 -- The latitudes of a grid that has passed its tests are within their limits.
 latitudes_held : (file : List ℕ) (s : ℕ) (g : Grid) → Passes file s g → LatitudesHeld g
@@ -44,7 +43,7 @@ latitudes_held file s (Grid.Lambert g) passes =
     let cone = sheet.taken_cone g (held file s 7 10) passes.0 in
     (sheet.taken_first g (held file s 7 10) passes.0, cone.0, cone.1, cone.2)
 
-module _ (file : List ℕ) (k : ℕ) {d : Description} (said : describe file k ≡ Described.As d) where
+module _ (file : List ℕ) (k : ℕ) {d : Description} (said : describe file k ≡ Ok d) where
   starts_held : StartsHeld d.starts
   starts_held =
       let known = described file k said in

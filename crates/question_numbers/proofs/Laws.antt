@@ -1,37 +1,21 @@
--- Four pieces that are put one behind another are put as one; and how many numbers the pieces of a description are.
+-- How many numbers the pieces of a description are.
 use mathlib.Core.Path.{◌≡◌, refl, ap, ◌∙◌}
-use mathlib.Core.List.{List, ◌++◌}
-use Prim.Native.Nat.{ℕ, ◌+◌, ◌≤◌}
+use Prim.Native.Nat.{ℕ, ◌+◌}
 use native.Mathlib.Omega.{arith}
-use lib.IntN.{ℤ}
 use lib.ListN.{length, length-append}
-use Rattle.laws_rows.specs.Rows.{Puts}
-use Rattle.laws_rows.proofs.Puts.{puts_then}
 use Rattle.section_3_geometry.specs.declared.Grid.{Grid}
 use Rattle.section_4.specs.declared.Level.{Level}
 use Rattle.section_4.specs.declared.Product.{Product}
 use Rattle.section_4.specs.declared.ProductDefinition.{ProductDefinition}
 use Rattle.question.specs.declared.Description.{Description}
 use Rattle.question.specs.Judge.{description_length}
+use Rattle.std.specs.Prelude.{Option, Some, None}
 use Rattle.question_numbers.specs.Numbers.{degree_numbers, grid_numbers, lambert_numbers, level_numbers, product_numbers, definition_numbers, field_numbers, shared_numbers, numbers_of}
 
-pub puts_four :
-    (run : List ℤ) (at : ℕ) (s t u v : List ℤ) {a b c d : List ℤ} {i j k n : ℕ}
-    → at + length s + length t + length u + length v ≤ length run
-    → Puts run at s a i
-    → Puts a i t b j
-    → Puts b j u c k
-    → Puts c k v d n
-    → Puts run at (s ++ t ++ u ++ v) d n
-puts_four run at s t u v fits first second third fourth =
-    let two = puts_then run at s t (omega arith) first second in
-    let three = puts_then run at (s ++ t) u (omega (arith, length-append s t)) two third in
-    puts_then run at (s ++ t ++ u) v (omega (arith, length-append s t, length-append (s ++ t) u)) three fourth
-
 -- Every level has three numbers, and every product eight.
-pub level_length : (level : Level) → length (level_numbers level) ≡ 3
-level_length Level.Absent = refl
-level_length (Level.At factor scaled) = refl
+pub level_length : (level : Option Level) → length (level_numbers level) ≡ 3
+level_length None = refl
+level_length (Some level) = refl
 
 pub product_length : (product : Product) → length (product_numbers product) ≡ 8
 product_length Product.Instant = refl

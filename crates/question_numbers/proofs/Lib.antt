@@ -1,4 +1,3 @@
--- The laws of numbers with a sign, and of how many numbers there are.
+-- The laws of how many numbers there are, and of what the machine holds of them.
 pub mod Laws
 pub mod Held
-pub mod Signs

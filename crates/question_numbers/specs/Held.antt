@@ -1,5 +1,5 @@
 -- Sizes within which the machine's numbers with a sign hold every number of a description.
-use Rattle.std.specs.Prelude.{ℕ, ◌≤◌, ◌<◌}
+use Rattle.std.specs.Prelude.{ℕ, ◌≤◌, ◌<◌, Option, Some, None}
 use Rattle.section_3_geometry.specs.declared.DegreeGrid.{DegreeGrid}
 use Rattle.section_3_geometry.specs.declared.LambertGrid.{LambertGrid}
 use Rattle.section_3_geometry.specs.declared.Grid.{Grid}
@@ -27,9 +27,9 @@ abbrev pub SheetHeld : SheetPlace → Type 0
 SheetHeld p = (p.right < 9223372036854775808) × (p.down < 9223372036854775808)
 
 -- The size of a level's factor.
-abbrev pub factor_size : Level → ℕ
-factor_size Level.Absent = 0
-factor_size (Level.At factor scaled) = factor.size
+abbrev pub factor_size : Option Level → ℕ
+factor_size None = 0
+factor_size (Some level) = level.factor.size
 
 abbrev pub RepresentationHeld : Representation → Type 0
 RepresentationHeld r = (r.e.size ≤ 127) × (r.d.size ≤ 22)

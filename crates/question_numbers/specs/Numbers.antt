@@ -1,6 +1,6 @@
 -- RULES, "A description" and "What C is given": a description and a place as rows of whole numbers, in the order in which RULES names them. A case of an enum
 -- is told by what the octets of the file hold for it.
-use Rattle.std.specs.Prelude.{ℕ, List, [], ◌∷◌, ◌++◌, map, ℤ, pos}
+use Rattle.std.specs.Prelude.{ℕ, List, [], ◌∷◌, ◌++◌, map, ℤ, pos, Option, Some, None}
 use Rattle.octets.specs.Numbers.{whole}
 use Rattle.calendar.specs.declared.Time.{Time}
 use Rattle.tiling_sections.specs.declared.Starts.{Starts}
@@ -48,9 +48,9 @@ lambert_numbers (Grid.Degrees g) = []
 lambert_numbers (Grid.Lambert g) = pos 30 ∷ whole g.stated ∷ pos g.upright ∷ pos g.dx ∷ pos g.dy ∷ whole g.cut1 ∷ whole g.cut2 ∷ []
 
 -- Is there a level (1) or none (0), its factor, and the scaled level.
-abbrev pub level_numbers : Level → List ℤ
-level_numbers Level.Absent = map pos (0 ∷ 0 ∷ 0 ∷ [])
-level_numbers (Level.At factor scaled) = pos 1 ∷ whole factor ∷ pos scaled ∷ []
+abbrev pub level_numbers : Option Level → List ℤ
+level_numbers None = map pos (0 ∷ 0 ∷ 0 ∷ [])
+level_numbers (Some level) = pos 1 ∷ whole level.factor ∷ pos level.scaled ∷ []
 
 abbrev pub kind_number : Kind → ℕ
 kind_number Kind.Mean = 0

@@ -9,7 +9,7 @@ ghost use Rattle.section_3_geometry.specs.Geometry.{points_in};
 ghost use Rattle.section_5.specs.Representation.{template_number};
 ghost use Rattle.section_6.specs.Presence.{indicator_of};
 ghost use Rattle.question.specs.Judge.{description_length};
-ghost use Rattle.question_numbers.specs.Numbers.{time_numbers, position_numbers, sheet_numbers, frame_numbers, degree_numbers, grid_numbers, lambert_numbers, level_numbers, kind_number, product_numbers, definition_numbers, representation_numbers, start_numbers, field_numbers, shared_numbers, numbers_of};
+ghost use Rattle.question_numbers.specs.Numbers.{time_numbers, position_numbers, sheet_numbers, frame_numbers, degree_numbers, grid_numbers, lambert_numbers, level_numbers, product_numbers, definition_numbers, representation_numbers, start_numbers, field_numbers, shared_numbers, numbers_of};
 ghost use Rattle.question_numbers.specs.Held.{LambertHeld, LatitudesHeld, GridHeld, SheetHeld, factor_size, RepresentationHeld, StartsHeld, Held};
 
 use calendar::Time;
@@ -17,9 +17,10 @@ use octets::Signed;
 use question::Description;
 use section_3_geometry::{Frame, Grid, LambertGrid, Position};
 use section_3_lambert::SheetPlace;
-use section_4::{Kind, Level, Product, ProductDefinition};
+use section_4::{Level, Product, ProductDefinition};
 use section_5::{Representation, Template};
 use section_6::Presence;
+use text::put;
 use tiling_sections::Starts;
 
 // The number that a sign and a size are.
@@ -28,7 +29,7 @@ fn signed(number: Signed) -> i64
     ensures { result ≡ whole number }
 {
     let size = number.size as i64;
-    if number.negative { 0 - size } else { size }
+    if number.negative { -size } else { size }
 }
 
 fn time_numbers(time: Time) -> [i64; 6]
@@ -49,26 +50,16 @@ fn position_numbers(position: Position) -> [i64; 2]
     requires { position.latitude.size < 9223372036854775808 }
     ensures { result ≡ position_numbers position }
 {
-    let latitude = signed(position.latitude);
-    [latitude, position.longitude as i64]
+    [signed(position.latitude), position.longitude as i64]
 }
 
-fn level_numbers(level: Level) -> [i64; 3]
+fn level_numbers(level: Option<Level>) -> [i64; 3]
     requires { factor_size level ≤ 127 }
     ensures { result ≡ level_numbers level }
 {
     match level {
-        Level::Absent => [0, 0, 0],
-        Level::At { factor, scaled } => [1, signed(factor), scaled as i64],
-    }
-}
-
-fn kind_number(kind: Kind) -> i64
-    ensures { result ≡ pos (kind_number kind) }
-{
-    match kind {
-        Kind::Mean => 0,
-        Kind::Sum => 1,
+        None => [0, 0, 0],
+        Some(level) => [1, signed(level.factor), level.scaled as i64],
     }
 }
 
@@ -78,17 +69,8 @@ fn product_numbers(product: Product) -> [i64; 8]
     match product {
         Product::Instant => [0, 0, 0, 0, 0, 0, 0, 0],
         Product::Interval { end, kind } => {
-            let date = end.date;
-            [
-                8,
-                date.year as i64,
-                date.month as i64,
-                date.day as i64,
-                end.hour as i64,
-                end.minute as i64,
-                end.second as i64,
-                kind_number(kind),
-            ]
+            let [year, month, day, hour, minute, second] = time_numbers(end);
+            [8, year, month, day, hour, minute, second, kind as i64]
         }
     }
 }
@@ -112,19 +94,6 @@ fn indicator_of(presence: Presence) -> i64
     }
 }
 
-// Puts the numbers into the run from `at` on, and answers the place behind them.
-fn put(run: &mut [i64], at: usize, numbers: &[i64]) -> usize
-    requires { at + length numbers.now ≤ length run.old }
-    ensures { Puts run.old at numbers.now run.new result }
-{
-    let mut done: usize = 0;
-    while done < numbers.len() {
-        run[at + done] = numbers[done];
-        done += 1;
-    }
-    at + done
-}
-
 fn frame_numbers(frame: Frame) -> [i64; 5]
     requires { points_in frame ≤ 16777216 }
     ensures { result ≡ frame_numbers frame }
@@ -145,20 +114,20 @@ fn degree_numbers(grid: Grid) -> [i64; 6]
 {
     match grid {
         Grid::Degrees(degrees) => {
-            let first = degrees.first;
-            let last = degrees.last;
+            let [latitude, longitude] = position_numbers(degrees.first);
+            let [last_latitude, last_longitude] = position_numbers(degrees.last);
             [
-                signed(first.latitude),
-                first.longitude as i64,
-                signed(last.latitude),
-                last.longitude as i64,
+                latitude,
+                longitude,
+                last_latitude,
+                last_longitude,
                 degrees.di as i64,
                 degrees.dj as i64,
             ]
         }
         Grid::Lambert(lambert) => {
-            let first = lambert.first;
-            [signed(first.latitude), first.longitude as i64, 0, 0, 0, 0]
+            let [latitude, longitude] = position_numbers(lambert.first);
+            [latitude, longitude, 0, 0, 0, 0]
         }
     }
 }
@@ -211,10 +180,8 @@ fn put_definition(run: &mut [i64], at: usize, definition: ProductDefinition) -> 
             definition.surface as i64,
         ],
     );
-    let height = definition.level;
-    let product = put(run, level, &level_numbers(height));
-    let told = definition.product;
-    let valid = put(run, product, &product_numbers(told));
+    let product = put(run, level, &level_numbers(definition.level));
+    let valid = put(run, product, &product_numbers(definition.product));
     put(run, valid, &time_numbers(definition.valid))
 }
 
@@ -222,14 +189,13 @@ fn representation_numbers(representation: Representation) -> [i64; 6]
     requires { RepresentationHeld representation }
     ensures { result ≡ representation_numbers representation }
 {
-    let template = representation.template;
     [
         representation.n as i64,
         representation.r as i64,
         signed(representation.e),
         signed(representation.d),
         representation.bits as i64,
-        template_number(template),
+        template_number(representation.template),
     ]
 }
 
@@ -259,8 +225,7 @@ fn put_field(run: &mut [i64], description: Description) -> usize
         &[description.discipline as i64, identification.status as i64],
     );
     let frame = put(run, reference, &time_numbers(identification.reference));
-    let grid = description.grid;
-    let definition = put_grid(run, frame, grid);
+    let definition = put_grid(run, frame, description.grid);
     put_definition(run, definition, description.definition)
 }
 
@@ -275,8 +240,7 @@ fn put_shared(run: &mut [i64], description: Description) -> usize
         representation,
         &representation_numbers(description.representation),
     );
-    let present = description.presence;
-    let starts = put(run, presence, &[indicator_of(present)]);
+    let starts = put(run, presence, &[indicator_of(description.presence)]);
     put(run, starts, &start_numbers(description.starts))
 }
 
@@ -286,8 +250,7 @@ pub fn put_description(run: &mut [i64], description: Description) -> usize
     ensures { Puts run.old 0 (numbers_of description) run.new result }
 {
     let lambert = put_shared(run, description);
-    let grid = description.grid;
-    put_lambert(run, lambert, grid)
+    put_lambert(run, lambert, description.grid)
 }
 
 // Puts the numbers of a position at the start of the run, and answers how many they are.

@@ -1,5 +1,5 @@
 -- The laws of a picture: its largest X is that of a point that is present, and no other is larger; and where its octets lie in the run that it was written into.
-use mathlib.Core.Path.{◌≡◌, refl, sym, ap, ap₂, ◌∙◌}
+use mathlib.Core.Path.{subst, ◌≡◌, refl, sym, ap, ap₂, subst, ◌∙◌}
 use mathlib.Core.Bool.{Bool, true, false, cond}
 use mathlib.Core.List.{List, ◌++◌}
 use Prim.Native.Nat.{ℕ, zero, suc, ◌+◌, ◌-◌, ◌≤◌, ◌<◌}
@@ -15,9 +15,8 @@ use Rattle.octets.proofs.Cases.{apart, split}
 use Rattle.laws_rows.specs.Rows.{row, laid, Puts}
 use Rattle.laws_rows.proofs.Laws.{row_length, row_same, row_at}
 use Rattle.laws_rows.proofs.Puts.{puts_then}
-use Rattle.values_largest.specs.declared.Largest.TheVariants as Largest
-use Rattle.values_largest.specs.Largest.{larger, largest_from, largest_of, largest_in}
-use Rattle.values_largest.proofs.Laws.{larger_first, larger_last, larger_within, largest_next, largest_same}
+use Rattle.values_largest.specs.Largest.{largest_from, largest_of, largest_in}
+use Rattle.values_largest.proofs.Laws.{largest_next, largest_same}
 use Rattle.refusals.specs.declared.Why.TheVariants as Why
 use Rattle.refusals.specs.Refusals.{refusal}
 use Rattle.text.specs.Text.{decimal}
@@ -39,20 +38,20 @@ use Rattle.values_integers.proofs.Range.{in_range_one}
 use Rattle.values_picture.specs.Painted.{grey_at}
 use Rattle.values_complex.specs.Complex.{values_in, integer_in, size_in}
 use Rattle.question.specs.declared.Description.{Description}
-use Rattle.question.specs.declared.Described.{Described}
 use Rattle.question.specs.Describe.{describe}
 use Rattle.question.specs.Judge.{Known, integer_of, is_decodable}
 use Rattle.question.proofs.Laws.{describe_placed, seven_placed}
-use Rattle.question.proofs.Known.{located, judged, few_points, packed_present, simple_decodable, groups_values, groups_decodable}
+use Rattle.question.proofs.Known.{bitmap, bitmap_lies, located, judged, few_points, packed_present, simple_decodable, groups_values, groups_decodable}
 use Rattle.question_decode.specs.Decoding.{present_of, rank_of}
-use Rattle.question_decode.proofs.Laws.{bitmap, bitmap_lies, simple_size, groups_size, field_ranked, rank_among}
-use Rattle.question_picture.specs.declared.Pictured.{Pictured}
+use Rattle.question_decode.proofs.Laws.{simple_size, groups_size, field_ranked, rank_among}
 use Rattle.question_picture.specs.Picture.{counting, largest_present, greys_of, header, picture_length, point_integer, picture_of, gives, refuses, picture_asked, drawing_by, pictured_by, pictured, LargestOf}
+use Rattle.std.specs.Prelude.{max, Option, Some, None, Result, Ok, Err}
+use Rattle.refusals.specs.declared.Refusal.{Refusal}
 
 -- The largest X of the points that are present is the largest of those that are packed: as many as points are present.
 counted_packed : (x : ℕ → ℕ) (rank mark : ℕ) {largest : ℕ} → mark < 2 → largest ≡ largest_of x rank → counting largest mark (x rank) ≡ largest_of x (rank + mark)
 counted_packed x rank zero few same = same ∙ sym (ap (largest_of x) (add-zero rank))
-counted_packed x rank (suc zero) few same = ap (λ (largest : ℕ). larger largest (x rank)) same ∙ sym (largest_next 0 x rank refl)
+counted_packed x rank (suc zero) few same = ap (λ (largest : ℕ). max largest (x rank)) same ∙ sym (largest_next 0 x rank refl)
 counted_packed x rank (suc (suc mark)) few same = absurd (omega arith)
 
 pub largest_packed : (mark rank x : ℕ → ℕ) → rank 0 ≡ 0 → ((i : ℕ) → rank (i + 1) ≡ rank i + mark i) → ((i : ℕ) → mark i < 2) → (n : ℕ) →
@@ -66,10 +65,10 @@ module _ (mark x : ℕ → ℕ) (few : (i : ℕ) → mark i < 2) where
   -- No point that is present has a larger X than the largest.
   counting_least : (largest m y : ℕ) → largest ≤ counting largest m y
   counting_least largest zero y = omega arith
-  counting_least largest (suc m) y = larger_first largest y
+  counting_least largest (suc m) y = omega arith
 
   counting_present : (largest m y : ℕ) → m ≡ 1 → y ≤ counting largest m y
-  counting_present largest m y is = rw is (larger_last largest y)
+  counting_present largest m y is = rw is (omega arith)
 
   pub largest_bounds : (n i : ℕ) → i < n → mark i ≡ 1 → x i ≤ largest_present mark x n
   unfolding largest_present
@@ -89,11 +88,13 @@ module _ (mark x : ℕ → ℕ) (few : (i : ℕ) → mark i < 2) where
   later : {n largest : ℕ} → Reached n largest → Reached (suc n) largest
   later r = (r.0, omega (arith, r.1), r.2, r.3)
 
-  found : (largest n m : ℕ) → mark n ≡ suc m → (1 ≤ largest → Reached n largest) → 1 ≤ larger largest (x n) → Reached (suc n) (larger largest (x n))
+  found : (largest n m : ℕ) → mark n ≡ suc m → (1 ≤ largest → Reached n largest) → 1 ≤ max largest (x n) → Reached (suc n) (max largest (x n))
   found largest n m is before some =
       split (ltb largest (x n))
-      (λ less. rw less (n, omega arith, omega (arith, is, few n), refl))
-      (λ not. rw not (later (before (rw not at some))))
+      (λ less. (n, omega arith, omega (arith, is, few n), omega (arith, ltb-true largest (x n) less)))
+      (λ not.
+      let same : max largest (x n) ≡ largest = omega (arith, ltb-false largest (x n) not) in
+      subst (Reached (suc n)) (sym same) (later (before (omega (arith, some, same)))))
 
   counted : (largest n m : ℕ) → mark n ≡ m → (1 ≤ largest → Reached n largest) → 1 ≤ counting largest m (x n) → Reached (suc n) (counting largest m (x n))
   counted largest n zero is before some = later (before some)
@@ -110,20 +111,20 @@ unfolding largest_from
 largest_least x zero k h = absurd (omega arith)
 largest_least x (suc n) k h =
     split (ltb k n)
-    (λ before. omega (arith, largest_least x n k (ltb-true k n before), larger_first (largest_of x n) (x n)))
-    (λ last. let here : k ≡ n = omega (arith, ltb-false k n last) in omega (arith, ap x here, larger_last (largest_of x n) (x n)))
+    (λ before. omega (arith, largest_least x n k (ltb-true k n before)))
+    (λ last. let here : k ≡ n = omega (arith, ltb-false k n last) in omega (arith, ap x here))
 
 pub largest_few : {most : ℕ} (x : ℕ → ℕ) (n : ℕ) → ((k : ℕ) → k < n → x k ≤ most) → largest_of x n ≤ most
 unfolding largest_from
 largest_few x zero each = omega arith
-largest_few x (suc n) each = larger_within (largest_of x n) (x n) (largest_few x n (λ k h. each k (omega arith))) (each n (omega arith))
+largest_few x (suc n) each = omega (arith, largest_few x n (λ k h. each k (omega arith)), each n (omega arith))
 
 -- An integer in its range has a size in that range, and an answer is one alone.
 own_range : (z : ℤ) → is_in_range z ≡ true → nat_abs z ≤ 2147483647
 own_range (pos x) e = leb-true x 2147483647 e
 own_range (negsuc x) e = apart cc
 
-one_largest : {a b : ℕ} → Largest.Is a ≡ Largest.Is b → b ≡ a
+one_largest : {a b : ℕ} → ◌≡◌ {A = Option ℕ} (Some a) (Some b) → b ≡ a
 one_largest e = cc
 
 -- Two pieces that are laid at the start of a run: where the octets of each lie, and that all behind them is as it was.
@@ -157,12 +158,12 @@ module _ (file : List ℕ) (d : Description) (known : Known file d) where
   n = d.representation.n
 
   -- The largest of the integers of either template is the field's own.
-  pub simple_largest : d.plan ≡ Data.Simple → Largest.Is (largest_of (simple_integer section d.representation.bits) n) ≡ largest_in (integer_of file d) n
-  simple_largest plan = rw (simple_decodable file d known plan) (ap Largest.Is (largest_same 0 _ _ n (λ m _. simple_size file d known plan m)))
+  pub simple_largest : d.plan ≡ Data.Simple → Some (largest_of (simple_integer section d.representation.bits) n) ≡ largest_in (integer_of file d) n
+  simple_largest plan = rw (simple_decodable file d known plan) (ap Some (largest_same 0 _ _ n (λ m _. simple_size file d known plan m)))
 
   pub groups_largest : {groups : Groups} → d.plan ≡ Data.Complex groups → largest_in (integer_in section groups) (values_in section groups) ≡ largest_in (integer_of file d) n
   groups_largest {groups} plan =
-      ap₂ (λ (inside : Bool) (largest : ℕ). cond inside (Largest.Is largest) Largest.Out) (groups_decodable file d known plan)
+      ap₂ (λ (inside : Bool) (largest : ℕ). cond inside (Some largest) None) (groups_decodable file d known plan)
       (ap (largest_of (size_in section groups)) (groups_values file d known plan) ∙ largest_same 0 _ _ n (λ m _. groups_size file d known plan m))
 
   -- The size of the integer numbered m.
@@ -232,7 +233,7 @@ module _ (file : List ℕ) (room : ℕ) (d : Description) where
   asked_drawn fits all = rw (le-ltb room (picture_length (frame_of d.grid)) fits, all)
 
   -- Where no largest integer is told, one is out of its range.
-  pub none_largest : Largest.Out ≡ largest_in (integer_of file d) d.representation.n → is_decodable file d ≡ false
+  pub none_largest : None ≡ largest_in (integer_of file d) d.representation.n → is_decodable file d ≡ false
   none_largest told = split (is_decodable file d) (λ all. let some = rw all at told in apart cc) (λ fails. fails)
 
 -- Greys that are laid behind the lines: both are laid as one.
@@ -241,17 +242,17 @@ pub laid_drawn : {A : Type 0} (run lines greys : List A) {first : ℕ} {put pain
 laid_drawn run lines greys {first} fits lines_put greys-laid = (puts_then run 0 lines greys (omega arith) lines_put (greys-laid, refl)).0
 
 -- An answer of picture: its length is that of a picture of a grid that is taken, and a refusal is placed within the largest file that is taken.
-abbrev pub Modest : Pictured → Type 0
-Modest (Pictured.Octets n) = n ≤ 16777265
-Modest (Pictured.Refused r) = r.place.0 ≤ largest
+abbrev pub Modest : Result ℕ Refusal → Type 0
+Modest (Ok n) = n ≤ 16777265
+Modest (Err r) = r.place.0 ≤ largest
 
 pub picture_modest : (file : List ℕ) (k room : ℕ) → Modest (pictured file k room)
 picture_modest file k room = by (describe file k) refl
   where
-    by : (a : Described) → describe file k ≡ a → Modest (pictured_by (drawing_by file room a))
-    by (Described.As d) said =
+    by : (a : Result Description Refusal) → describe file k ≡ a → Modest (pictured_by (drawing_by file room a))
+    by (Ok d) said =
         split (ltb room (picture_length (frame_of d.grid))) (λ none. rw none (omega arith))
         (λ enough.
         split (is_decodable file d) (λ all. rw (enough, all) (omega (arith, header_short (frame_of d.grid), few_points file d (k, said))))
         (λ fails. rw (enough, fails) (seven_placed file k said)))
-    by (Described.Refused r) said = describe_placed file k said
+    by (Err r) said = describe_placed file k said

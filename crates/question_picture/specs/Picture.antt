@@ -1,5 +1,5 @@
 -- RULES, "The picture": a field as a raw PGM picture. Its integers X and which of its points are present are all that it is made of.
-use Rattle.std.specs.Prelude.{ℕ, zero, suc, ◌+◌, ◌≡◌, cond, List, ◌++◌, ltb, nat_abs, length}
+use Rattle.std.specs.Prelude.{ℕ, zero, suc, ◌+◌, ◌≡◌, max, cond, List, ◌++◌, ltb, nat_abs, length, Some, Result, Ok, Err}
 use Rattle.laws_rows.specs.Rows.{row, laid}
 use Rattle.refusals.specs.declared.Refusal.{Refusal}
 use Rattle.refusals.specs.declared.Why.TheVariants as Why
@@ -8,19 +8,16 @@ use Rattle.text.specs.Text.{ascii, decimal}
 use Rattle.greys.specs.Greys.{point_grey}
 use Rattle.section_3_geometry.specs.declared.Frame.{Frame}
 use Rattle.section_3_geometry.specs.Geometry.{points_in, frame_of}
-use Rattle.values_largest.specs.declared.Largest.TheVariants as Largest
-use Rattle.values_largest.specs.Largest.{larger, largest_in}
+use Rattle.values_largest.specs.Largest.{largest_in}
 use Rattle.question.specs.declared.Description.{Description}
-use Rattle.question.specs.declared.Described.{Described}
 use Rattle.question.specs.Describe.{describe}
 use Rattle.question.specs.Judge.{integer_of, is_decodable}
 use Rattle.question_decode.specs.Decoding.{present_of, rank_of}
-use Rattle.question_picture.specs.declared.Pictured.{Pictured}
 
 -- Of two points that are present the larger X counts; one that is missing counts for nothing.
 abbrev pub counting : (largest mark x : ℕ) → ℕ
 counting largest zero x = largest
-counting largest (suc mark) x = larger largest x
+counting largest (suc mark) x = max largest x
 
 -- Where it is known of each point whether it is present (1) or missing (0), and which X it has if it is present:
 module _ (mark x : ℕ → ℕ) where
@@ -67,19 +64,19 @@ picture_asked file room d =
     (cond (is_decodable file d) (gives (picture_length (frame_of d.grid)) (picture_of file d)) (refuses (refusal Why.ValueOutOfRange d.starts.seven.0)))
 
 -- The refusals of describe come first.
-abbrev pub drawing_by : List ℕ → ℕ → Described → Drawing
-drawing_by file room (Described.As d) = picture_asked file room d
-drawing_by file room (Described.Refused r) = refuses r
+abbrev pub drawing_by : List ℕ → ℕ → Result Description Refusal → Drawing
+drawing_by file room (Ok d) = picture_asked file room d
+drawing_by file room (Err r) = refuses r
 
 abbrev pub drawing : List ℕ → ℕ → ℕ → Drawing
 drawing file k room = drawing_by file room (describe file k)
 
 -- The answer is the picture's length.
-abbrev pub pictured_by : Drawing → Pictured
-pictured_by (gives n octets) = Pictured.Octets n
-pictured_by (refuses r) = Pictured.Refused r
+abbrev pub pictured_by : Drawing → Result ℕ Refusal
+pictured_by (gives n octets) = Ok n
+pictured_by (refuses r) = Err r
 
-abbrev pub pictured : List ℕ → ℕ → ℕ → Pictured
+abbrev pub pictured : List ℕ → ℕ → ℕ → Result ℕ Refusal
 pictured file k room = pictured_by (drawing file k room)
 
 -- What the whole run holds: the picture from its first octet on, and behind that all as it was. A refused call alters nothing.
@@ -92,4 +89,4 @@ run_left file k run = run_after run (drawing file k (length run))
 
 -- All integers of a field are in their range, and this is the largest.
 abbrev pub LargestOf : List ℕ → Description → ℕ → Type 0
-LargestOf file d largest = largest_in (integer_of file d) d.representation.n ≡ Largest.Is largest
+LargestOf file d largest = largest_in (integer_of file d) d.representation.n ≡ Some largest

@@ -5,101 +5,92 @@
 ghost use Rattle.std.specs.Prelude.{◌≡◌, ◌<◌};
 ghost use Rattle.section_3_geometry.specs.Geometry.{points_of};
 ghost use Rattle.values_complex.specs.Complex.{single_of};
-ghost use Rattle.question.specs.Judge.{Known, integer_of};
+ghost use Rattle.question.specs.Judge.{integer_of};
 ghost use Rattle.question_point.specs.Point.{value_from, value_by, pointed_at, point_asked_of, point_into, point};
 
 use doubles::Packing;
 use octets::FilePlace;
-use question::{Described, Description};
-use question_place::Asked;
+use question::DescribedField;
 use refusals::{Refusal, Why};
 use section_7::Data;
-use values_complex::Single;
-
-// The value of a point, or that it is missing.
-#[derive(Clone, Copy)]
-pub enum Pointed {
-    Value(f64),
-    Missing,
-    Refused(Refusal),
-}
 
 // The integer numbered m of a field, where none up to it is out of its range.
-fn integer_of(file: &[u8], description: Description, m: u64) -> Single
-    requires { (Known file.now description) × (m < description.representation.n) }
-    ensures { result ≡ single_of (integer_of file.now description) m }
+fn integer_of(field: DescribedField, m: u64) -> Option<u32>
+    requires { m < field.description.representation.n }
+    ensures { result ≡ single_of (integer_of field.entry.file.now field.entry.description) m }
 {
-    let representation = description.representation;
-    let plan = description.plan;
-    let starts = description.starts;
-    let section = section::octets_in(file, starts.seven);
-    match plan {
-        Data::Simple => Single::Is(values_simple::integer_at(section, representation.bits, m)),
+    let section = field.packed();
+    match field.description.plan {
+        Data::Simple => {
+            Some(values_simple::integer_at(section, field.description.representation.bits, m))
+        }
         Data::Complex(groups) => values_complex::integer_at(section, groups, m),
     }
 }
 
 // What is told of the point whose integer this is, where section 7 starts there: its value, or 16.
-fn value_from(packing: Packing, seven: FilePlace, integer: Single) -> Pointed
+fn value_from(
+    packing: Packing,
+    seven: FilePlace,
+    integer: Option<u32>,
+) -> Result<Option<f64>, Refusal>
     ensures { result ≡ value_from packing seven.0 integer }
 {
-    match integer {
-        Single::Is(x) => Pointed::Value(doubles::rebuild(packing, x)),
-        Single::Out => Pointed::Refused(Refusal {
-            why: Why::ValueOutOfRange,
-            place: seven,
-        }),
-    }
+    let x = integer.ok_or(Why::ValueOutOfRange.at(seven))?;
+    Ok(Some(doubles::rebuild(packing, x)))
 }
 
 // The value of the point that is present behind m others.
-fn value_by(file: &[u8], description: Description, m: u64) -> Pointed
-    requires { (Known file.now description) × (m < description.representation.n) }
-    ensures { result ≡ value_by file.now description m }
+fn value_by(field: DescribedField, m: u64) -> Result<Option<f64>, Refusal>
+    requires { m < field.description.representation.n }
+    ensures { result ≡ value_by field.entry.file.now field.entry.description m }
 {
-    let starts = description.starts;
-    let packing = question_decode::packing_of(description.representation);
-    value_from(packing, starts.seven, integer_of(file, description, m))
+    let packing = question_decode::packing_of(field.description.representation);
+    value_from(
+        packing,
+        field.description.starts.seven,
+        integer_of(field, m),
+    )
 }
 
-// Point n of a field that has it.
-fn pointed_at(file: &[u8], description: Description, n: usize) -> Pointed
-    requires { (Known file.now description) × (n < points_of description.grid) }
-    ensures { result ≡ pointed_at file.now description n }
+// Point n of a field that has it: its value, or none where it is missing.
+fn pointed_at(field: DescribedField, n: usize) -> Result<Option<f64>, Refusal>
+    requires { n < points_of field.description.grid }
+    ensures { result ≡ pointed_at field.entry.file.now field.entry.description n }
 {
-    let grid = description.grid;
-    let marks = description.presence;
-    let bitmap = section_6::bitmap_in_force(file, marks, section_3_geometry::points_of(grid));
+    let bitmap = field.bitmap();
     if !values_points::is_present(bitmap, n) {
-        return Pointed::Missing;
+        return Ok(None);
     }
-    value_by(file, description, values_points::rank_of(bitmap, n) as u64)
+    value_by(field, values_points::rank_of(bitmap, n) as u64)
 }
 
 // Point n of a field that is described, for a run of this length.
-fn point_asked_of(file: &[u8], description: Description, n: usize, room: usize) -> Pointed
-    requires { Known file.now description }
-    ensures { result ≡ point_asked_of file.now n room description }
+fn point_asked_of(field: DescribedField, n: usize, room: usize) -> Result<Option<f64>, Refusal>
+    ensures { result ≡ point_asked_of field.entry.file.now n room field.entry.description }
 {
-    let grid = description.grid;
-    match question_place::point_asked(grid, n, 1, room) {
-        Asked::Taken => pointed_at(file, description, n),
-        Asked::Refused(refused) => Pointed::Refused(refused),
-    }
+    question_place::point_asked(field.description.grid, n, 1, room)?;
+    pointed_at(field, n)
 }
 
-// Point `n` of field `k`, for a run of this length: its value, or that it is missing, or refusal 1 to 14, 17, 15 or 16.
-pub fn point_into(file: &[u8], k: usize, n: usize, room: usize) -> Pointed
+// Point `n` of field `k`, for a run of this length: its value, or none where it is missing, or refusal 1 to 14, 17, 15 or 16.
+pub fn point_into(file: &[u8], k: usize, n: usize, room: usize) -> Result<Option<f64>, Refusal>
     ensures { result ≡ point_into file.now k n room }
 {
-    match question::describe(file, k) {
-        Described::As(description) => point_asked_of(file, description, n, room),
-        Described::Refused(refused) => Pointed::Refused(refused),
-    }
+    let description = question::describe(file, k)?;
+    point_asked_of(
+        DescribedField {
+            file,
+            k,
+            description,
+        },
+        n,
+        room,
+    )
 }
 
 // Point `n` of field `k`, likewise. An answer that is handed back has its own room.
-pub fn point(file: &[u8], k: usize, n: usize) -> Pointed
+pub fn point(file: &[u8], k: usize, n: usize) -> Result<Option<f64>, Refusal>
     ensures { result ≡ point file.now k n }
 {
     point_into(file, k, n, 1)

@@ -1,75 +1,69 @@
 -- `question_decode::fill` meets its contract: the integers of either template are the field's own, and its bitmap tells which point has which.
 use mathlib.Core.Path.{◌≡◌, sym, ap, ◌∙◌}
 use native.Mathlib.Omega.{arith}
+use Prim.Native.Nat.{ℕ}
+use mathlib.Core.List.{List}
+use lib.Ieee.{Float}
 use lib.ListN.{length}
 use Rattle.section_3_geometry.specs.Geometry.{points_of}
 use Rattle.values_points.specs.Written.{marks_in, runs, Room}
 use Rattle.values_points.proofs.Marks.{field_covers}
-use Rattle.question.proofs.Known.{seven_lies, few_points, scaled, bits_fit, groups_sound, groups_values, groups_decodable}
-use Rattle.question_decode.proofs.Laws.{bitmap, bitmap_lies, packed_marked, field_rows, simple_size, groups_size}
-use Rattle.question_decode.proofs.fill.Goals.{After-bitmap_in_force-bitmap}
+use Rattle.question.specs.declared.DescribedField.{DescribedField}
+use Rattle.question.proofs.Known.{known_of, bitmap, bitmap_lies, few_points, scaled, bits_fit, groups_sound, groups_values, groups_decodable}
+use Rattle.question_decode.specs.Decoding.{Stretch}
+use Rattle.question_decode.proofs.Laws.{packed_marked, field_rows, simple_size, groups_size}
 use Rattle.question_decode.proofs.fill.Goals as goal
 
-pub packing_of-packing-requires : goal.packing_of-packing-requires
-packing_of-packing-requires c = scaled c.args.file.now c.args.description c.requires.decodable.0
-
-pub octets_in-section-requires : goal.octets_in-section-requires
-octets_in-section-requires c = seven_lies c.args.file.now c.args.description c.requires.decodable.0
-
-pub points_of-requires : goal.points_of-requires
-points_of-requires c = few_points c.args.file.now c.args.description c.requires.decodable.0
-
-pub bitmap_in_force-bitmap-requires : goal.bitmap_in_force-bitmap-requires
-bitmap_in_force-bitmap-requires c = rw c.points_of.ensures (bitmap_lies c.args.file.now c.args.description c.requires.decodable.0)
-
--- The bitmap that is handed on, and the room that it and both runs are.
-marks : (c : After-bitmap_in_force-bitmap) → c.bitmap_in_force-bitmap.result.now ≡ bitmap c.args.file.now c.args.description c.requires.decodable.0
-marks c = rw c.points_of.ensures at c.bitmap_in_force-bitmap.ensures
-
-room : (c : After-bitmap_in_force-bitmap) → Room (bitmap c.args.file.now c.args.description c.requires.decodable.0) c.args.values.now c.args.presence.now
-room c =
-    let file = c.args.file.now in
-    let d = c.args.description in
-    let known = c.requires.decodable.0 in (
-      omega (arith, c.requires.stretch),
-      omega (arith, c.requires.stretch, few_points file d known),
-      λ some. omega (arith, c.requires.stretch, field_covers file d.presence (points_of d.grid) (bitmap_lies file d known) some),
+-- The room that the field's bitmap and a stretch of both runs are.
+room : (f : DescribedField) (values : List Float) (presence : List ℕ) → Stretch f.description values presence → Room (bitmap f.file.now f.description (known_of f)) values presence
+room f values presence stretch =
+    let few = few_points f.file.now f.description (known_of f) in (
+      omega (arith, stretch),
+      omega (arith, stretch, few),
+      λ some. omega (arith, stretch, field_covers f.file.now f.description.presence (points_of f.description.grid) (bitmap_lies f.file.now f.description (known_of f)) some),
     )
 
 -- As many points are present as there are integers.
-ranks : (c : After-bitmap_in_force-bitmap) →
-    c.args.description.representation.n ≡ (marks_in (bitmap c.args.file.now c.args.description c.requires.decodable.0)).rank (length c.args.values.now)
-ranks c =
-    packed_marked c.args.file.now c.args.description c.requires.decodable.0 ∙ ap (marks_in (bitmap c.args.file.now c.args.description c.requires.decodable.0)).rank (sym c.requires.stretch.0)
+ranks : (f : DescribedField) (values : List Float) (presence : List ℕ) → (stretch : Stretch f.description values presence) →
+    f.description.representation.n ≡ (marks_in (bitmap f.file.now f.description (known_of f))).rank (length values)
+ranks f values presence stretch =
+    packed_marked f.file.now f.description (known_of f) ∙ ap (marks_in (bitmap f.file.now f.description (known_of f))).rank (sym stretch.0)
+
+pub packing_of-packing-requires : goal.packing_of-packing-requires
+packing_of-packing-requires c = let f = c.args.field in scaled f.file.now f.description (known_of f)
 
 pub fill-requires : goal.fill-requires
 fill-requires c =
-    rw (marks (goal.at.fill-requires c).After-bitmap_in_force-bitmap) (room (goal.at.fill-requires c).After-bitmap_in_force-bitmap, bits_fit c.args.file.now c.args.description c.requires.decodable.0, ranks (goal.at.fill-requires c).After-bitmap_in_force-bitmap)
+    let f = c.args.field in
+    let stretch = c.requires.stretch in
+    rw c.bitmap-bitmap.ensures (room f _ _ stretch, bits_fit f.file.now f.description (known_of f), ranks f _ _ stretch)
 
 pub fill-requires-in-Complex : goal.fill-requires-in-Complex
 fill-requires-in-Complex c =
-    let file = c.args.file.now in
-    let d = c.args.description in
-    let known = c.requires.decodable.0 in
+    let f = c.args.field in
+    let known = known_of f in
+    let stretch = c.requires.stretch in
     let e = c.in-Complex.is in
-    rw (c.octets_in-section.ensures, marks (goal.at.fill-requires-in-Complex c).After-bitmap_in_force-bitmap)
+    rw (c.packed-section.ensures, c.bitmap-bitmap.ensures)
     (record {
-      sound = groups_sound file d known e;
-      all_in_range = groups_decodable file d known e ∙ c.requires.decodable.1;
-      room = room (goal.at.fill-requires-in-Complex c).After-bitmap_in_force-bitmap;
-      groups_value = groups_values file d known e ∙ ranks (goal.at.fill-requires-in-Complex c).After-bitmap_in_force-bitmap;
+      sound = groups_sound f.file.now f.description known e;
+      all_in_range = groups_decodable f.file.now f.description known e ∙ c.requires.decodable;
+      room = room f _ _ stretch;
+      groups_value = groups_values f.file.now f.description known e ∙ ranks f _ _ stretch;
     })
 
 pub returns-in-Simple : goal.returns-in-Simple
 returns-in-Simple c =
-    let rows = field_rows c.args.file.now c.args.description c.requires.decodable.0 (runs c.args.values.now c.args.presence.now)
-    (simple_size c.args.file.now c.args.description c.requires.decodable.0 c.in-Simple.is) c.requires.stretch.0
-    (rw (c.octets_in-section.ensures, c.packing_of-packing.ensures, marks (goal.at.returns-in-Simple c).After-bitmap_in_force-bitmap) at c.fill.ensures) in
+    let f = c.args.field in
+    let rows = field_rows f.file.now f.description (known_of f) (runs c.args.values.now c.args.presence.now)
+    (simple_size f.file.now f.description (known_of f) c.in-Simple.is) c.requires.stretch.0
+    (rw (c.packed-section.ensures, c.packing_of-packing.ensures, c.bitmap-bitmap.ensures) at c.fill.ensures) in
     record { values_after = rows.0; presence_after = rows.1 }
 
 pub returns-in-Complex : goal.returns-in-Complex
 returns-in-Complex c =
-    let rows = field_rows c.args.file.now c.args.description c.requires.decodable.0 (runs c.args.values.now c.args.presence.now)
-    (groups_size c.args.file.now c.args.description c.requires.decodable.0 c.in-Complex.is) c.requires.stretch.0
-    (rw (c.octets_in-section.ensures, c.packing_of-packing.ensures, marks (goal.at.returns-in-Complex c).After-bitmap_in_force-bitmap) at c.fill-in-Complex.ensures) in
+    let f = c.args.field in
+    let rows = field_rows f.file.now f.description (known_of f) (runs c.args.values.now c.args.presence.now)
+    (groups_size f.file.now f.description (known_of f) c.in-Complex.is) c.requires.stretch.0
+    (rw (c.packed-section.ensures, c.packing_of-packing.ensures, c.bitmap-bitmap.ensures) at c.fill-in-Complex.ensures) in
     record { values_after = rows.0; presence_after = rows.1 }

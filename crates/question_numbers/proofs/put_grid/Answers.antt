@@ -7,9 +7,6 @@ use Rattle.question_numbers.specs.Numbers.{frame_numbers, degree_numbers}
 use Rattle.question_numbers.proofs.Laws.{degrees_length}
 use Rattle.question_numbers.proofs.put_grid.Goals as goal
 
-pub frame_numbers-requires : goal.frame_numbers-requires
-frame_numbers-requires c = rw c.frame_of.ensures c.requires.1.1
-
 pub returns : goal.returns
 returns c =
     let g = c.args.grid in

@@ -1,21 +1,7 @@
--- `question_place::on_degrees` meets its contract: the refusals of describe come first.
-use mathlib.Core.Path.{◌≡◌, sym, ap, ◌∙◌}
+-- `question_place::on_degrees` meets its contract: the grid of a field that is described has few points.
+use mathlib.Core.Path.{sym, ◌∙◌}
 use Rattle.question.proofs.Laws.{described_grid}
-use Rattle.question.specs.Describe.{describe}
-use Rattle.question.specs.declared.Described.TheVariants as Described
-use Rattle.question_place.specs.Place.{degrees_of}
-use Rattle.question_place.proofs.on_degrees.Goals.{In-As}
 use Rattle.question_place.proofs.on_degrees.Goals as goal
 
--- The field is described so.
-said : (c : In-As) → let a = c.args in describe a.file.now a.k ≡ Described.As c.in-As.description
-said c = sym c.describe.ensures ∙ c.in-As.is
-
 pub degrees_asked-requires : goal.degrees_asked-requires
-degrees_asked-requires c = let a = c.args in (described_grid a.file.now a.k (said (goal.at.degrees_asked-requires c).In-As)).2
-
-pub returns-in-As : goal.returns-in-As
-returns-in-As c = c.degrees_asked.ensures ∙ sym (ap (degrees_of _ _) (said (goal.at.returns-in-As c).In-As))
-
-pub returns-in-Refused : goal.returns-in-Refused
-returns-in-Refused c = sym (ap (degrees_of _ _) (sym c.describe.ensures ∙ c.in-Refused.is))
+degrees_asked-requires c = (described_grid c.args.file.now c.args.k (sym c.describe.ensures ∙ c.in_ok-description.was)).2

@@ -1,1 +1,0 @@
--- `question_numbers::frame_numbers` meets its contract: each number is handed on, and the product fits.

@@ -1,1 +1,0 @@
--- `question_numbers::lambert_numbers` meets its contract: latitudes keep their sign.

@@ -1,1 +1,0 @@
--- `question_numbers::position_numbers` meets its contract: the latitude keeps its sign.

@@ -1,1 +1,0 @@
--- `question_numbers::put_sheet` meets its contract: two numbers are put.

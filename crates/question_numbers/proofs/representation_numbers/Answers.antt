@@ -1,1 +1,0 @@
--- `question_numbers::representation_numbers` meets its contract: E and D keep their signs.

@@ -1,1 +1,0 @@
--- `question_numbers::start_numbers` meets its contract: every place is a number without a sign.

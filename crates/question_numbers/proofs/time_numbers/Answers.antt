@@ -1,1 +1,0 @@
--- `question_numbers::time_numbers` meets its contract: every part of a time is a number without a sign.
