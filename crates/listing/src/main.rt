@@ -1,9 +1,10 @@
 // Prints the listing of the file on standard input (RULES, "Listing"). What is printed of what was read is decided, and proved, in listing_file.
 #![tactic(auto)]
 
-ghost use Rattle.std.specs.Prelude.{◌≡◌, ◌≤◌, length, take, pos};
+ghost use Rattle.std.specs.Prelude.{◌≡◌, ◌≤◌, length, take, Some};
 ghost use Rattle.std.specs.Io.KnownBytes.{Consumes, IsAtEnd};
 
+use listing_file::Stream;
 use std::io::Read;
 
 // Reads until the run is full, the input ends or a read fails, and answers how many octets it has put at the start of the run.
@@ -21,15 +22,12 @@ fn read_full<R: Read>(input: &mut R, run: &mut [u8]) -> usize
     got
 }
 
-// Reads once more where reading has stopped: how many octets there still are, at most 1, or -1 where the input cannot be read.
-fn read_again<R: Read>(input: &mut R) -> isize
-    ensures { result ≡ pos 0 → IsAtEnd (R.remaining input.new) }
+// Reads once more where reading has stopped: how many octets there still are, at most 1, or nothing where the input cannot be read.
+fn read_again<R: Read>(input: &mut R) -> Option<usize>
+    ensures { result ≡ Some 0 → IsAtEnd (R.remaining input.new) }
 {
     let mut rest = [0u8; 1];
-    match input.read(&mut rest) {
-        Ok(count) => count as isize,
-        Err(_) => -1,
-    }
+    input.read(&mut rest).ok()
 }
 
 fn main(rt: HostRuntime) {
@@ -41,8 +39,8 @@ fn main(rt: HostRuntime) {
     let printout = listing_file::print(&mut text, &input, got, again);
     let told = &text[..printout.length];
     // The exit status is 0 in every case, so a write that fails is passed over.
-    let _ = match printout.descriptor {
-        2 => rt.stderr().write_all(told),
-        _ => rt.stdout().write_all(told),
+    let _ = match printout.stream {
+        Stream::Output => rt.stdout().write_all(told),
+        Stream::Error => rt.stderr().write_all(told),
     };
 }

@@ -24,18 +24,25 @@ subject_short discipline d = simp length-append (omega (arith, decimal_short dis
 pub size_short : (f : Frame) → length (size_text f) ≤ 41
 size_short f = simp length-append (omega (arith, decimal_short f.ni, decimal_short f.nj))
 
--- What stands behind a field's number, over the texts that it holds.
-behind : (subject size digits : List ℕ) (surface n : ℕ) → length subject ≤ 62 → length size ≤ 41 → length digits ≤ 14 → length (subject ++ ascii " " ++ decimal surface ++ ascii " " ++ size ++ ascii " " ++ digits ++ ascii " " ++ decimal n) ≤ 161
-behind subject size digits surface n subject-fits size_fits digits-fit = simp length-append (omega (arith, decimal_short surface, decimal_short n))
+-- What stands behind a field's number, as far as its size.
+abbrev pub front_text : Description → List ℕ
+front_text d = subject_text d.discipline d.definition ++ ascii " " ++ decimal d.definition.surface ++ ascii " " ++ size_text (frame_of d.grid)
+
+pub front_short : (d : Description) → length (front_text d) ≤ 125
+front_short d =
+    simp length-append (omega (
+      arith,
+      decimal_short d.discipline,
+      decimal_short d.definition.category,
+      decimal_short d.definition.parameter,
+      decimal_short d.definition.surface,
+      decimal_short (frame_of d.grid).ni,
+      decimal_short (frame_of d.grid).nj,
+    ))
+
+-- And all of it, over its texts.
+behind : (front digits : List ℕ) (n : ℕ) → length front ≤ 125 → length digits ≤ 14 → length (front ++ ascii " " ++ digits ++ ascii " " ++ decimal n) ≤ 161
+behind front digits n front-fits digits-fit = simp length-append (omega (arith, decimal_short n))
 
 pub field_short : (d : Description) → length (field_text d) ≤ 161
-field_short d =
-    behind
-    (subject_text d.discipline d.definition)
-    (size_text (frame_of d.grid))
-    (digits_of (listed_time d.definition))
-    d.definition.surface
-    d.representation.n
-    (subject_short d.discipline d.definition)
-    (size_short (frame_of d.grid))
-    (omega arith)
+field_short d = behind (front_text d) (digits_of (listed_time d.definition)) d.representation.n (front_short d) (omega arith)

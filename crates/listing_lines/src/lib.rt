@@ -1,5 +1,5 @@
 // What a line of the listing says: a refusal, or what a field is (RULES, "Listing").
-#![tactic(auto)]
+#![tactic(auto, using(text::proofs::Laws::decimal_short))]
 
 ghost use Rattle.std.specs.Prelude.{◌≡◌, ◌+◌, ◌≤◌, length};
 ghost use Rattle.laws_rows.specs.Rows.{Puts};
@@ -16,9 +16,8 @@ pub fn put_refusal(run: &mut [u8], at: usize, refusal: Refusal) -> usize
     requires { at + 52 ≤ length run.old }
     ensures { Puts run.old at (refusal_text refusal) run.new result }
 {
-    let why = refusal.why;
     let number = text::put(run, at, b"refused ");
-    let word = text::put_decimal(run, number, refusals::number_of(why));
+    let word = text::put_decimal(run, number, refusals::number_of(refusal.why));
     let place = text::put(run, word, b" at ");
     text::put_decimal(run, place, refusal.place.0 as u64)
 }
@@ -49,14 +48,14 @@ fn put_size(run: &mut [u8], at: usize, frame: Frame) -> usize
 fn listed_time(definition: ProductDefinition) -> Time
     ensures { result ≡ listed_time definition }
 {
-    let product = definition.product;
-    match product {
+    match definition.product {
         Product::Instant => definition.valid,
-        Product::Interval { end, kind: _ } => end,
+        Product::Interval { end, .. } => end,
     }
 }
 
 // Puts a field's line behind its number.
+#[tactic(auto, using(text::proofs::Laws::decimal_short, crate::proofs::Laws::subject_short, crate::proofs::Laws::size_short))]
 pub fn put_field(run: &mut [u8], at: usize, description: Description) -> usize
     requires { at + 161 ≤ length run.old }
     ensures { Puts run.old at (field_text description) run.new result }
@@ -66,8 +65,7 @@ pub fn put_field(run: &mut [u8], at: usize, description: Description) -> usize
     let surface = text::put(run, subject, b" ");
     let kind = text::put_decimal(run, surface, definition.surface as u64);
     let size = text::put(run, kind, b" ");
-    let grid = description.grid;
-    let frame = put_size(run, size, section_3_geometry::frame_of(grid));
+    let frame = put_size(run, size, section_3_geometry::frame_of(description.grid));
     let time = text::put(run, frame, b" ");
     let digits = calendar::digits(listed_time(definition));
     let moment = text::put(run, time, &digits);

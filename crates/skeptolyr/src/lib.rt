@@ -8,20 +8,13 @@ ghost use Rattle.question_point.specs.Point.{point_into};
 ghost use Rattle.question_picture.specs.Picture.{pictured, run_left};
 ghost use Rattle.skeptolyr.specs.Codes.{check_code, decode_code, point_code, point_left, picture_code, numbers_code, numbers_left, described_for, placed_for, sheet_for};
 
-use question::Described;
-use question_decode::Decoded;
-use question_picture::Pictured;
-use question_place::{OnDegrees, OnLambert};
-use question_point::Pointed;
-use tiling::Checked;
-
 // Checks a file: messages x 2^32 + fields, or 2^63 + number x 2^32 + place.
 pub fn skeptolyr_check(file: &[u8]) -> u64
     ensures { result ≡ check_code (check file.now) }
 {
     match tiling::check(file) {
-        Checked::Counts { messages, fields } => messages as u64 * 0x1_0000_0000 + fields as u64,
-        Checked::Refused(refusal) => refusals::code_of(refusal),
+        Ok(counts) => counts.messages as u64 * 0x1_0000_0000 + counts.fields as u64,
+        Err(refusal) => refusals::code_of(refusal),
     }
 }
 
@@ -38,8 +31,8 @@ pub fn skeptolyr_decode(
     ensures presence_after { presence.new ≡ presence_left file.now k start values.old presence.old }
 {
     match question_decode::decode(file, k, start, values, presence) {
-        Decoded::Points(points) => points as u64,
-        Decoded::Refused(refusal) => refusals::code_of(refusal),
+        Ok(points) => points as u64,
+        Err(refusal) => refusals::code_of(refusal),
     }
 }
 
@@ -49,10 +42,8 @@ pub fn skeptolyr_describe(file: &[u8], k: usize, numbers: &mut [i64]) -> u64
     ensures numbers_after { numbers.new ≡ numbers_left numbers.old (described_for file.now k numbers.old) }
 {
     match question::judge_numbers(file, k, numbers.len()) {
-        Described::As(description) => {
-            question_numbers::put_description(numbers, description) as u64
-        }
-        Described::Refused(refusal) => refusals::code_of(refusal),
+        Ok(description) => { question_numbers::put_description(numbers, description) as u64 }
+        Err(refusal) => refusals::code_of(refusal),
     }
 }
 
@@ -62,11 +53,11 @@ pub fn skeptolyr_place(file: &[u8], k: usize, n: usize, position: &mut [i64]) ->
     ensures position_after { position.new ≡ numbers_left position.old (placed_for file.now k n position.old) }
 {
     match question_place::on_degrees(file, k, n, position.len()) {
-        OnDegrees::Grid(grid) => {
+        Ok(grid) => {
             let lies = section_3_positions::position_of(grid, n as u32);
             question_numbers::put_position(position, lies) as u64
         }
-        OnDegrees::Refused(refusal) => refusals::code_of(refusal),
+        Err(refusal) => refusals::code_of(refusal),
     }
 }
 
@@ -76,11 +67,11 @@ pub fn skeptolyr_sheet(file: &[u8], k: usize, n: usize, place: &mut [i64]) -> u6
     ensures place_after { place.new ≡ numbers_left place.old (sheet_for file.now k n place.old) }
 {
     match question_place::on_lambert(file, k, n, place.len()) {
-        OnLambert::Grid(grid) => {
+        Ok(grid) => {
             let lies = section_3_lambert::sheet_of(grid, n as u32);
             question_numbers::put_sheet(place, lies) as u64
         }
-        OnLambert::Refused(refusal) => refusals::code_of(refusal),
+        Err(refusal) => refusals::code_of(refusal),
     }
 }
 
@@ -91,15 +82,15 @@ pub fn skeptolyr_point(file: &[u8], k: usize, n: usize, value: &mut [f64]) -> u6
     ensures value_after { value.new ≡ point_left value.old (point_into file.now k n (length value.old)) }
 {
     match question_point::point_into(file, k, n, value.len()) {
-        Pointed::Value(double) => {
+        Ok(Some(double)) => {
             value[0] = double;
             1
         }
-        Pointed::Missing => {
+        Ok(None) => {
             value[0] = 0.0;
             0
         }
-        Pointed::Refused(refusal) => refusals::code_of(refusal),
+        Err(refusal) => refusals::code_of(refusal),
     }
 }
 
@@ -109,7 +100,7 @@ pub fn skeptolyr_picture(file: &[u8], k: usize, picture: &mut [u8]) -> u64
     ensures picture_after { picture.new ≡ run_left file.now k picture.old }
 {
     match question_picture::picture(file, k, picture) {
-        Pictured::Octets(length) => length as u64,
-        Pictured::Refused(refusal) => refusals::code_of(refusal),
+        Ok(length) => length as u64,
+        Err(refusal) => refusals::code_of(refusal),
     }
 }

@@ -2,11 +2,12 @@
 // lines with computations of their own.
 #![tactic(auto)]
 
-ghost use Rattle.std.specs.Prelude.{◌≡◌, ◌≤◌, length};
+ghost use Rattle.std.specs.Prelude.{◌≡◌, length};
 
-use calendar::{Later, Order, Reading, Unit};
-use doubles::Rebuilt;
+use bits_reader::BitReader;
+use calendar::Unit;
 use octets::{BitPlace, FilePlace};
+use std::cmp::Ordering;
 use std::io;
 use std::io::Read;
 
@@ -19,11 +20,11 @@ fn rebuild(rt: &impl Print, question: &[u8]) -> io::Result<()>
     let d = octets::sign_and_size(octets::number_at(question, FilePlace(7), 2), 2);
     let x = octets::sign_and_size(octets::number_at(question, FilePlace(9), 8), 8);
     match doubles::rebuild_one(r, e, d, x) {
-        Rebuilt::Double(value) => {
+        Ok(value) => {
             let pattern = f64::to_bits(value);
             print!(rt; "double {pattern:016x}")
         }
-        Rebuilt::Refused(refusal) => {
+        Err(refusal) => {
             let number = refusals::number_of(refusal.why);
             let place = refusal.place.0;
             print!(rt; "refused {number} at {place}")
@@ -38,7 +39,7 @@ fn read_bits(rt: &impl Print, question: &[u8]) -> io::Result<()>
     let at = BitPlace(question[1] as usize);
     let b = question[2] as u32 % 33;
     let run = &question[8..];
-    let number = bits_reader::take(run, at, b).number;
+    let number = BitReader::new(run, at).next(b);
     print!(rt; "bits {number}")
 }
 
@@ -55,17 +56,17 @@ fn later(rt: &impl Print, question: &[u8]) -> io::Result<()>
     requires { length question.now ≡ 32 }
 {
     match calendar::time_at(question, FilePlace(1)) {
-        Reading::At(time) => {
+        Some(time) => {
             let count = octets::number_at(question, FilePlace(9), 4) as u32;
             match calendar::plus(time, count, unit_of(question[8])) {
-                Later::At(end) => {
+                Some(end) => {
                     print!(rt; "time ")?;
                     rt.write_all(&calendar::digits(end))
                 }
-                Later::Passes2399 => print!(rt; "passes 2399"),
+                None => print!(rt; "passes 2399"),
             }
         }
-        Reading::NoTime => print!(rt; "no time"),
+        None => print!(rt; "no time"),
     }
 }
 
@@ -73,16 +74,16 @@ fn later(rt: &impl Print, question: &[u8]) -> io::Result<()>
 fn order(rt: &impl Print, question: &[u8]) -> io::Result<()>
     requires { length question.now ≡ 32 }
 {
-    let Reading::At(first) = calendar::time_at(question, FilePlace(1)) else {
+    let Some(first) = calendar::time_at(question, FilePlace(1)) else {
         return print!(rt; "no time");
     };
-    let Reading::At(second) = calendar::time_at(question, FilePlace(9)) else {
+    let Some(second) = calendar::time_at(question, FilePlace(9)) else {
         return print!(rt; "no time");
     };
     match calendar::compare(first, second) {
-        Order::Before => print!(rt; "before"),
-        Order::Same => print!(rt; "same"),
-        Order::After => print!(rt; "after"),
+        Ordering::Less => print!(rt; "before"),
+        Ordering::Equal => print!(rt; "same"),
+        Ordering::Greater => print!(rt; "after"),
     }
 }
 
@@ -99,33 +100,14 @@ fn answer(rt: &impl Print, question: &[u8]) -> io::Result<()>
     println!(rt)
 }
 
-// Answers the whole questions of the input, one after the other. What is left of a question at its end is passed over.
-fn answer_all(rt: &impl Print, input: &[u8]) -> io::Result<()> {
-    let mut at: usize = 0;
-    while 32 <= input.len() - at {
-        let end = at + 32;
-        answer(rt, &input[at..end])?;
-        at = end;
+// Answers the whole questions of the first 65,536 octets of the input, one after the other. What is left of a question at its end is passed over.
+fn main(rt: HostRuntime) -> io::Result<()> {
+    let mut question = [0u8; 32];
+    for _ in 0..2048 {
+        if rt.stdin().read_exact(&mut question).is_err() {
+            break;
+        }
+        answer(&rt, &question)?;
     }
     Ok(())
-}
-
-// Reads until the run is full, the input ends or a read fails, and answers how many octets it has put at the start of the run.
-fn read_full<R: Read>(input: &mut R, run: &mut [u8]) -> usize
-    ensures { result ≤ length run.new }
-{
-    let mut got: usize = 0;
-    while got < run.len() {
-        match input.read(&mut run[got..]) {
-            Ok(0) | Err(_) => break,
-            Ok(more) => got += more,
-        }
-    }
-    got
-}
-
-fn main(rt: HostRuntime) -> io::Result<()> {
-    let mut input = [0u8; 65536];
-    let got = read_full(&mut rt.stdin(), &mut input);
-    answer_all(&rt, &input[..got])
 }

@@ -1,34 +1,30 @@
 -- `skeptolyr::skeptolyr_check` meets its contract: the numbers fit, since those in an answer of check are small.
-use mathlib.Core.Path.{ap, sym, subst, ◌∙◌}
+use mathlib.Core.List.{List}
+use mathlib.Core.Path.{◌≡◌, sym, subst, ◌∙◌}
+use Prim.Native.Nat.{ℕ}
 use native.Mathlib.Omega.{arith}
-use Rattle.tiling.specs.declared.Checked.TheVariants as Checked
+use Rattle.std.specs.Prelude.{Result, Ok, Err}
+use Rattle.refusals.specs.declared.Refusal.{Refusal}
+use Rattle.tiling.specs.declared.Counts.{Counts}
+use Rattle.tiling.specs.Tiling.{check}
 use Rattle.tiling.proofs.Bounds.{Small, check_bounded}
-use Rattle.skeptolyr.specs.Codes.{check_code}
-use Rattle.skeptolyr.proofs.skeptolyr_check.Goals.{After-check, In-Counts}
 use Rattle.skeptolyr.proofs.skeptolyr_check.Goals as goal
 
--- What `check` has answered is small, and so are the counts.
-small : (c : After-check) → Small c.check.result
-small c = subst Small (sym c.check.ensures) (check_bounded c.args.file.now)
-
-few : (c : In-Counts) → Small (Checked.Counts c.in-Counts.messages c.in-Counts.fields)
-few c =
-    let small : (Small c.check.result) = subst Small (sym c.check.ensures) (check_bounded c.args.file.now) in
-    subst Small c.in-Counts.is (small)
+-- What `check` answers is small.
+small : (file : List ℕ) {a : Result Counts Refusal} → a ≡ check file → Small a
+small file same = subst Small (sym same) (check_bounded file)
 
 pub overflow_mul-result : goal.overflow_mul-result
-overflow_mul-result c = omega (arith, few (goal.at.overflow_mul-result c).In-Counts)
+overflow_mul-result c =
+    let few : Small (Ok c.in-Ok.counts) = small c.args.file.now (sym c.in-Ok.is ∙ c.check.ensures) in
+    omega arith
 
 pub overflow_add-result : goal.overflow_add-result
-overflow_add-result c = omega (arith, few (goal.at.overflow_add-result c).In-Counts)
+overflow_add-result c =
+    let few : Small (Ok c.in-Ok.counts) = small c.args.file.now (sym c.in-Ok.is ∙ c.check.ensures) in
+    omega arith
 
 pub code_of-requires : goal.code_of-requires
 code_of-requires c =
-    let near : Small (Checked.Refused c.in-Refused.refusal) = subst Small c.in-Refused.is (small (goal.at.code_of-requires c).After-check) in
+    let near : Small (Err c.in-Err.refusal) = small c.args.file.now (sym c.in-Err.is ∙ c.check.ensures) in
     omega arith
-
-pub returns-in-Counts : goal.returns-in-Counts
-returns-in-Counts c = ap check_code (sym c.in-Counts.is ∙ c.check.ensures)
-
-pub returns-in-Refused : goal.returns-in-Refused
-returns-in-Refused c = c.code_of.ensures ∙ ap check_code (sym c.in-Refused.is ∙ c.check.ensures)

@@ -5,6 +5,6 @@ use Rattle.tests_ask.proofs.order.Goals as goal
 
 pub compare-requires : goal.compare-requires
 compare-requires g c = (
-  read_is_gregorian _ _ _ (sym c.time_at.ensures ∙ c.in-At.is),
-  read_is_gregorian _ _ _ (sym c.time_at-2.ensures ∙ c.in-At-time_at.is),
+  read_is_gregorian _ _ _ (sym c.time_at.ensures ∙ c.in-Some.is),
+  read_is_gregorian _ _ _ (sym c.time_at-2.ensures ∙ c.in-Some-time_at.is),
 )
