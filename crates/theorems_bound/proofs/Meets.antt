@@ -12,12 +12,12 @@ use lib.Ieee.Scale.{finite}
 use Rattle.octets.proofs.Cases.{apart}
 use Rattle.octets.specs.declared.Signed.{Signed}
 use Rattle.octets.specs.Numbers.{whole, whole_of}
-use Rattle.doubles.specs.declared.Rebuilt.TheVariants.{Double, Refused}
 use Rattle.doubles.specs.Doubles.{power_of_two, power_of_ten, scaled_by, sum_of, value_of, is_in_range, is_rebuildable, not_rebuildable, rebuild_one}
 use Rattle.theorems_bound.specs.Bound.{raised, exact_s, written_v, Near, Meets, InLimits}
 use Rattle.theorems_bound.proofs.Whole.{held, raised_is, whole_from}
 use Rattle.theorems_bound.proofs.Sum.{power_on_grid, sum_is_nearest, exact_is_small}
 use Rattle.theorems_bound.proofs.Roundings.{roundings_meet}
+use Rattle.std.specs.Prelude.{Ok, Err}
 
 -- Demand 3 of one double, for all R, E, D and X within the limits.
 pub rebuilt_meets : (r : ℕ) (e d : Signed) (x : ℕ) → InLimits r e d x → Meets d.negative d.size (exact_s r e x) (value_of r e d x)
@@ -46,10 +46,10 @@ answered_in_limits r e d x t =
     size_packed true zero t = zero-le
     size_packed true (suc size) t = absurd t
 
-pub answered_meets : (r : ℕ) (e d x : Signed) (v : Float) → rebuild_one r e d x ≡ Double v → (v ≡ value_of r e d x.size) × Meets d.negative d.size (exact_s r e x.size) (value_of r e d x.size)
+pub answered_meets : (r : ℕ) (e d x : Signed) (v : Float) → rebuild_one r e d x ≡ Ok v → (v ≡ value_of r e d x.size) × Meets d.negative d.size (exact_s r e x.size) (value_of r e d x.size)
 answered_meets r e d x v answer = go (is_rebuildable r e d x) (answered_in_limits r e d x) answer
   where
-    go : (b : Bool) → (T b → InLimits r e d x.size) → cond b (Double (value_of r e d x.size)) (Refused not_rebuildable) ≡ Double v → (v ≡ value_of r e d x.size) × Meets d.negative d.size (exact_s r e x.size) (value_of r e d x.size)
+    go : (b : Bool) → (T b → InLimits r e d x.size) → cond b (Ok (value_of r e d x.size)) (Err not_rebuildable) ≡ Ok v → (v ≡ value_of r e d x.size) × Meets d.negative d.size (exact_s r e x.size) (value_of r e d x.size)
     go true limits given = (cc, rebuilt_meets r e d x.size (limits tt))
     go false limits given = apart cc
 

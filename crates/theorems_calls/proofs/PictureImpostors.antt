@@ -22,7 +22,6 @@ use Rattle.values_integers.specs.Integers.{group_among, stored_at, integer, are_
 use Rattle.laws_rows.specs.Rows.{row}
 use Rattle.text.specs.Text.{spelt}
 use Rattle.question.specs.declared.Description.{Description}
-use Rattle.question.specs.declared.Described.{Described}
 use Rattle.question.specs.Describe.{described_at, describe}
 use Rattle.section_3_geometry.specs.Geometry.{frame_of}
 use Rattle.question_decode.specs.Decoding.{answer}
@@ -31,15 +30,17 @@ use Rattle.skeptolyr.specs.Codes.{decode_code}
 use Rattle.theorems_demands.specs.Sample.{two_fields, strayed_field}
 use Rattle.theorems_calls.specs.PointImpostors.{RefusedByDecode}
 use Rattle.theorems_calls.specs.PictureImpostors.{Printed, printed, NoImpostorForPicture}
+use Rattle.std.specs.Prelude.{Result, Ok, Err}
+use Rattle.refusals.specs.declared.Refusal.{Refusal}
 
 -- A run of as many sevens as the octets of a picture of 2 x 2 points.
 abbrev fifteen : List ℕ
 fifteen = 7 ∷ 7 ∷ 7 ∷ 7 ∷ 7 ∷ 7 ∷ 7 ∷ 7 ∷ 7 ∷ 7 ∷ 7 ∷ 7 ∷ 7 ∷ 7 ∷ 7 ∷ []
 
 -- How long the picture of a field is, where it is described.
-abbrev length_in : Described → ℕ
-length_in (Described.As d) = picture_length (frame_of d.grid)
-length_in (Described.Refused r) = 0
+abbrev length_in : Result Description Refusal → ℕ
+length_in (Ok d) = picture_length (frame_of d.grid)
+length_in (Err r) = 0
 
 -- The first field has X 2912 and 2748 at points 0 and 2. The second one has other greys at the same points. The field that strays is refused with 16, as it is by decode, and with 15
 -- where the run is empty.
@@ -69,11 +70,11 @@ abbrev next_grey : Printed → ℕ
 next_grey p = get_or p.run 12 0
 
 -- The field that strays is described, and its picture would fit.
-strayed_field_lem : (a : Described) → describe strayed_field 0 ≡ a → length_in a ≡ 15 → (d : Description) × (describe strayed_field 0 ≡ Described.As d) × (picture_length (frame_of d.grid) ≡ 15)
-strayed_field_lem (Described.As d) said long = (d, said, long)
-strayed_field_lem (Described.Refused r) said long = absurd (omega (arith, long))
+strayed_field_lem : (a : Result Description Refusal) → describe strayed_field 0 ≡ a → length_in a ≡ 15 → (d : Description) × (describe strayed_field 0 ≡ Ok d) × (picture_length (frame_of d.grid) ≡ 15)
+strayed_field_lem (Ok d) said long = (d, said, long)
+strayed_field_lem (Err r) said long = absurd (omega (arith, long))
 
-there : (d : Description) × (describe strayed_field 0 ≡ Described.As d) × (picture_length (frame_of d.grid) ≡ 15)
+there : (d : Description) × (describe strayed_field 0 ≡ Ok d) × (picture_length (frame_of d.grid) ≡ 15)
 there = strayed_field_lem (describe strayed_field 0) refl sample.long
 
 pub no_impostor_for_picture : NoImpostorForPicture

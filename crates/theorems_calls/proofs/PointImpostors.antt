@@ -23,33 +23,34 @@ use Rattle.section_6.specs.Presence.{present_before, presence_at}
 use Rattle.section_7.specs.Packing.{values_before, bits_before, are_sound, data_at}
 use Rattle.values_integers.specs.Integers.{group_among, stored_at, integer, are_in_range}
 use Rattle.section_3_geometry.specs.Geometry.{points_of}
-use Rattle.question.specs.declared.Described.{Described}
 use Rattle.question.specs.Describe.{described_at, describe}
 use Rattle.question_decode.specs.Decoding.{answer}
-use Rattle.question_point.specs.declared.Pointed.TheVariants as Pointed
 use Rattle.question_point.specs.Point.{point_into}
 use Rattle.question_point.proofs.Laws.{Told, answered_point}
 use Rattle.skeptolyr.specs.Codes.{decode_code, point_code}
 use Rattle.theorems_demands.specs.Sample.{two_fields, strayed_field}
 use Rattle.theorems_demands.specs.Demand2.{HasPoint}
 use Rattle.theorems_calls.specs.PointImpostors.{Shown, shown, RefusedByDecode, NoImpostorForPoint}
+use Rattle.std.specs.Prelude.{None, Result, Ok, Err}
+use Rattle.question.specs.declared.Description.{Description}
+use Rattle.refusals.specs.declared.Refusal.{Refusal}
 
 -- A run of one zero.
 abbrev one_zero : List Float
 one_zero = fin false 0 (pos 0) ∷ []
 
 -- How many points a field has, where it is described.
-abbrev points_in : Described → ℕ
-points_in (Described.As d) = points_of d.grid
-points_in (Described.Refused r) = 0
+abbrev points_in : Result Description Refusal → ℕ
+points_in (Ok d) = points_of d.grid
+points_in (Err r) = 0
 
 -- Of the first field, point 0 is 291.2 and point 1 is missing. Of the field that strays, point 0 is told, point 1 is missing, and point 3 is refused with 16, as the
 -- field is by decode: section 7 starts at 199. It has four points.
 pub record OfThePoints : Type 0 where
   pub first : shown two_fields 0 0 one_zero ≡ record { answer = 1; run = of_bits binary64 0x4072_3333_3333_3333 ∷ [] }
-  pub second : point_into two_fields 0 1 1 ≡ Pointed.Missing
+  pub second : point_into two_fields 0 1 1 ≡ Ok None
   pub told : (shown strayed_field 0 0 one_zero).answer ≡ 1
-  pub missing : point_into strayed_field 0 1 1 ≡ Pointed.Missing
+  pub missing : point_into strayed_field 0 1 1 ≡ Ok None
   pub strayed : (shown strayed_field 0 3 one_zero).answer ≡ 2 ^ 63 + 16 * 2 ^ 32 + 199
   pub four : points_in (describe strayed_field 0) ≡ 4
   pub refused : decode_code (answer strayed_field 0 0 16777216 16777216) ≡ 2 ^ 63 + 16 * 2 ^ 32 + 199
@@ -59,14 +60,14 @@ unfolding two_fields strayed_field number_at run run_for section_at starts_after
 sample = record { first = refl; second = refl; told = refl; missing = refl; strayed = refl; four = refl; refused = refl }
 
 -- The missing points are points that their fields have, and so is the last of the field that strays.
-missing_told : Told two_fields 0 1 Pointed.Missing
-missing_told = answered_point two_fields 0 1 1 Pointed.Missing sample.second tt
+missing_told : Told two_fields 0 1 (Ok None)
+missing_told = answered_point two_fields 0 1 1 (Ok None) sample.second tt
 
 missing_there : HasPoint two_fields 0 1 missing_told.d.grid
 missing_there = record { d = missing_told.d; describes = missing_told.describes; grid = refl; below = missing_told.below }
 
-strayed_told : Told strayed_field 0 1 Pointed.Missing
-strayed_told = answered_point strayed_field 0 1 1 Pointed.Missing sample.missing tt
+strayed_told : Told strayed_field 0 1 (Ok None)
+strayed_told = answered_point strayed_field 0 1 1 (Ok None) sample.missing tt
 
 strayed_there : HasPoint strayed_field 0 3 strayed_told.d.grid
 strayed_there = record { d = strayed_told.d; describes = strayed_told.describes; grid = refl; below = omega (arith, sym (ap points_in strayed_told.describes) ∙ sample.four) }

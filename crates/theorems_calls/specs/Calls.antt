@@ -1,6 +1,6 @@
 -- The demands of the functions that users call, in the numbers that they are given: what C learns from the one number of each of its functions and from the
 -- runs that they leave, and what the listing puts.
-use Rattle.std.specs.Prelude.{ℕ, suc, ◌+◌, ◌*◌, ◌^◌, ◌≤◌, ◌<◌, ◌≡◌, List, [], ◌∷◌, ◌++◌, Float, length, get_or, ℤ, pos, negsuc}
+use Rattle.std.specs.Prelude.{ℕ, suc, ◌+◌, ◌*◌, ◌^◌, ◌≤◌, ◌<◌, ◌≡◌, List, [], ◌∷◌, ◌++◌, Float, length, get_or, ℤ, pos, Option, Some, None, Ok}
 use Rattle.std.specs.Float.{nan}
 use Rattle.tiling_sections.specs.declared.Located.{Located}
 use Rattle.theorems_grammar.specs.Grammar.{Accepted}
@@ -14,13 +14,12 @@ use Rattle.section_3_lambert.specs.Sheet.{sheet_of}
 use Rattle.question.specs.declared.Description.{Description}
 use Rattle.question.specs.Judge.{integer_of}
 use Rattle.question.specs.Judged.{Judged}
-use Rattle.question_decode.specs.declared.Decoded.TheVariants as Decoded
 use Rattle.question_decode.specs.Decoding.{rank_of}
 use Rattle.laws_rows.specs.Rows.{laid, Puts}
 use Rattle.text.specs.Text.{ascii, decimal}
 use Rattle.listing_lines.specs.Lines.{field_text}
 use Rattle.listing_file.specs.declared.Printout.{Printout}
-use Rattle.listing_file.specs.Listing.{ReadFrom, unreadable_text}
+use Rattle.listing_file.specs.Listing.{ReadFrom, unreadable_text, descriptor_of}
 use Rattle.question_numbers.specs.Numbers.{position_numbers, sheet_numbers, numbers_of}
 use Rattle.theorems_demands.specs.Questions.{Question, check, describe, decode, picture, describe_into, place_into, sheet_into, point_into}
 use Rattle.theorems_demands.specs.Demand1.{FieldAt, Applies, First}
@@ -120,7 +119,7 @@ pub record PointKeeps (file : List ℕ) (k n : ℕ) (before : List Float) (code 
   pub near : code ≡ 1 → (g : Grid) (at : OnGrid file k n g) (x : ℕ) → integer_of file at.d (rank_of file at.d n) ≡ pos x → RebuiltNear at.d x (get_or left 0 nan)
   -- Where decode answers, these are the two elements that it writes for the point.
   pub alike :
-      code < 2 ^ 63 → (c : Call) (points : ℕ) → c.k ≡ k → answer_to file c ≡ Decoded.Points points →
+      code < 2 ^ 63 → (c : Call) (points : ℕ) → c.k ≡ k → answer_to file c ≡ Ok points →
       (value_in (left_behind file c) (c.start + n) ≡ get_or left 0 nan) × (mark_in (left_behind file c) (c.start + n) ≡ code)
 
 -- What a call of skeptolyr_picture has answered, and the run of octets that it has left.
@@ -156,9 +155,9 @@ pub record Lists (input before after : List ℕ) (behind : ℕ) : Type 0 where
 
 -- What a call of listing_file::print has put: the program `listing` hands it what it has read of its input, and what reading answered when it was tried once
 -- more. The listing of the whole input is for standard output. Where the input cannot be read, a line for standard error says so.
-pub record ListingPrints (run : List ℕ) (got : ℕ) (again : ℤ) (before after : List ℕ) (p : Printout) : Type 0 where
-  pub listed : (n : ℕ) → again ≡ pos n → (whole : List ℕ) → ReadFrom whole run got → Lists whole before after p.length × (p.descriptor ≡ pos 1)
-  pub unreadable : (n : ℕ) → again ≡ negsuc n → (whole : List ℕ) → ReadFrom whole run got → Puts before 0 unreadable_text after p.length × (p.descriptor ≡ pos 2)
+pub record ListingPrints (run : List ℕ) (got : ℕ) (again : Option ℕ) (before after : List ℕ) (p : Printout) : Type 0 where
+  pub listed : (n : ℕ) → again ≡ Some n → (whole : List ℕ) → ReadFrom whole run got → Lists whole before after p.length × (descriptor_of p.stream ≡ 1)
+  pub unreadable : again ≡ None → (whole : List ℕ) → ReadFrom whole run got → Puts before 0 unreadable_text after p.length × (descriptor_of p.stream ≡ 2)
 
 -- A call of decode by its parameters: k, start, and the two runs.
 abbrev pub runs_of : List Float → List ℕ → BothRuns

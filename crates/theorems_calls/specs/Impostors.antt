@@ -1,15 +1,14 @@
 -- RULES, "How strong each statement is": readers that would satisfy weaker statements of skeptolyr_describe, skeptolyr_place and skeptolyr_sheet. Each of these is
 -- any function that meets the contract for every input, and yet does as the impostor does: there is none.
-use Rattle.std.specs.Prelude.{ℕ, ◌+◌, ◌-◌, ◌*◌, ◌/◌, ◌≡◌, List, ℤ, length}
+use Rattle.std.specs.Prelude.{ℕ, ◌+◌, ◌-◌, ◌*◌, ◌/◌, ◌≡◌, List, ℤ, length, Result, Ok, Err}
 use Rattle.section_3_geometry.specs.declared.DegreeGrid.{DegreeGrid}
 use Rattle.section_3_geometry.specs.declared.LambertGrid.{LambertGrid}
 use Rattle.section_3_geometry.specs.Geometry.{column_of, row_of, south_of, span_east, span_south}
 use Rattle.section_3_positions.specs.Positions.{longitude_at, latitude_at}
-use Rattle.question_place.specs.declared.OnDegrees.{OnDegrees}
-use Rattle.question_place.specs.declared.OnLambert.{OnLambert}
 use Rattle.question_place.specs.Place.{on_degrees, on_lambert}
 use Rattle.question_numbers.specs.Numbers.{position_numbers, sheet_numbers}
 use Rattle.skeptolyr.specs.Codes.{Answer, numbers, refused, numbers_code, numbers_left, described_for, placed_for, sheet_for}
+use Rattle.refusals.specs.declared.Refusal.{Refusal}
 
 -- What a call leaves: its answer, and the run of numbers.
 pub record Told : Type 0 where
@@ -60,13 +59,13 @@ abbrev pub upward : ℕ → LambertGrid → List ℤ
 upward n g = sheet_numbers (record { right = column_of g.frame n * g.dx; down = (g.frame.nj - 1 - row_of g.frame n) * g.dy })
 
 -- What is left of a run where these numbers are put in place of the right ones.
-abbrev pub wrongly_placed : (DegreeGrid → List ℤ) → OnDegrees → Answer
-wrongly_placed told (OnDegrees.Grid g) = numbers (told g)
-wrongly_placed told (OnDegrees.Refused r) = refused r
+abbrev pub wrongly_placed : (DegreeGrid → List ℤ) → Result DegreeGrid Refusal → Answer
+wrongly_placed told (Ok g) = numbers (told g)
+wrongly_placed told (Err r) = refused r
 
-abbrev pub wrongly_on_sheet : (LambertGrid → List ℤ) → OnLambert → Answer
-wrongly_on_sheet told (OnLambert.Grid g) = numbers (told g)
-wrongly_on_sheet told (OnLambert.Refused r) = refused r
+abbrev pub wrongly_on_sheet : (LambertGrid → List ℤ) → Result LambertGrid Refusal → Answer
+wrongly_on_sheet told (Ok g) = numbers (told g)
+wrongly_on_sheet told (Err r) = refused r
 
 abbrev pub PlacesAs : (ℕ → DegreeGrid → List ℤ) → Placer → Type 0
 PlacesAs told f = (file : List ℕ) (k n : ℕ) (run : List ℤ) → (f file k n run).run ≡ numbers_left run (wrongly_placed (told n) (on_degrees file k n (length run)))

@@ -1,9 +1,8 @@
 -- RULES, "How strong each statement is": readers that would satisfy weaker statements of skeptolyr_picture. Each of these is any function that meets the contract
 -- for every input, and yet does as the impostor does: there is none.
-use Rattle.std.specs.Prelude.{ℕ, ◌^◌, ◌≤◌, ◌<◌, ◌≡◌, List, length, get_or}
+use Rattle.std.specs.Prelude.{ℕ, ◌^◌, ◌≤◌, ◌<◌, ◌≡◌, List, length, get_or, Ok}
 use Rattle.section_3_geometry.specs.Geometry.{frame_of}
 use Rattle.question.specs.declared.Description.{Description}
-use Rattle.question.specs.declared.Described.TheVariants as Described
 use Rattle.question.specs.Describe.{describe}
 use Rattle.question_decode.specs.Decoding.{answer}
 use Rattle.question_picture.specs.Picture.{picture_length, pictured, run_left}
@@ -39,4 +38,4 @@ pub record NoImpostorForPicture : Type 0 where
       ((file : List ℕ) (k : ℕ) (run : List ℕ) → RefusedByDecode file k → (f file k run).answer ≡ decode_code (answer file k 0 16777216 16777216)) → ⊥
   pub draws_every_field :
       (f : Drawer) → MeetsPicture f →
-      ((file : List ℕ) (k : ℕ) (d : Description) (run : List ℕ) → describe file k ≡ Described.As d → picture_length (frame_of d.grid) ≤ length run → (f file k run).answer < 2 ^ 63) → ⊥
+      ((file : List ℕ) (k : ℕ) (d : Description) (run : List ℕ) → describe file k ≡ Ok d → picture_length (frame_of d.grid) ≤ length run → (f file k run).answer < 2 ^ 63) → ⊥

@@ -1,9 +1,8 @@
 -- RULES, "How strong each statement is": readers that would satisfy weaker statements of skeptolyr_point. Each of these is any function that meets the contract for
 -- every input, and yet does as the impostor does: there is none.
-use Rattle.std.specs.Prelude.{ℕ, ◌+◌, ◌^◌, ◌≤◌, ◌<◌, ◌≡◌, List, Float, length}
+use Rattle.std.specs.Prelude.{ℕ, ◌+◌, ◌^◌, ◌≤◌, ◌<◌, ◌≡◌, List, Float, length, None, Ok}
 use Rattle.section_3_geometry.specs.declared.Grid.{Grid}
 use Rattle.question_decode.specs.Decoding.{answer}
-use Rattle.question_point.specs.declared.Pointed.TheVariants as Pointed
 use Rattle.question_point.specs.Point.{point_into}
 use Rattle.skeptolyr.specs.Codes.{decode_code, point_code, point_left}
 use Rattle.theorems_demands.specs.Demand2.{HasPoint}
@@ -39,7 +38,7 @@ pub record NoImpostorForPoint : Type 0 where
   pub refuses_with_decode : (f : Pointer) → MeetsPoint f → ((file : List ℕ) (k n : ℕ) (run : List Float) → RefusedByDecode file k → 2 ^ 63 ≤ (f file k n run).answer) → ⊥
   pub refuses_the_missing :
       (f : Pointer) → MeetsPoint f →
-      ((file : List ℕ) (k n : ℕ) (run : List Float) → RefusedByDecode file k → point_into file k n (length run) ≡ Pointed.Missing → 2 ^ 63 ≤ (f file k n run).answer) → ⊥
+      ((file : List ℕ) (k n : ℕ) (run : List Float) → RefusedByDecode file k → point_into file k n (length run) ≡ Ok None → 2 ^ 63 ≤ (f file k n run).answer) → ⊥
   -- One that tells every point that a field has, and so never refuses with 16.
   pub tells_every_point :
       (f : Pointer) → MeetsPoint f →

@@ -15,16 +15,15 @@ use Rattle.section_3_geometry.specs.Geometry.{points_of}
 use Rattle.values_integers.specs.Integers.{are_in_range}
 use Rattle.values_integers.proofs.Range.{in_range_all, in_range_one}
 use Rattle.question.specs.declared.Description.{Description}
-use Rattle.question.specs.declared.Described.TheVariants as Described
 use Rattle.question.specs.Describe.{describe}
 use Rattle.question.specs.Judge.{integer_of}
 use Rattle.question_place.proofs.Laws.{point_taken}
 use Rattle.question_decode.specs.Decoding.{present_of, rank_of}
 use Rattle.question_decode.proofs.Laws.{one_or_zero}
-use Rattle.question_point.specs.declared.Pointed.{Pointed}
 use Rattle.question_point.specs.Point.{point_length, pointed_at, point_if, pointed_by, point}
 use Rattle.question_point.proofs.Laws.{told_missing, told_value_lem, told_out}
 use Rattle.theorems_demands.specs.Alone.{Present, UpToOwn, Alone, Agrees, both_present, both_missing}
+use Rattle.std.specs.Prelude.{Option, Some, None, Result, Ok, Err}
 
 -- An integer in its range is a number without a sign, which it is by its size.
 pub own_size : (z : ℤ) → is_in_range z ≡ true → (z ≡ pos (nat_abs z)) × (nat_abs z ≤ 2147483647)
@@ -32,16 +31,16 @@ own_size (pos x) e = (refl, leb-true x 2147483647 e)
 own_size (negsuc x) e = apart cc
 
 -- Each answer is of one kind alone, and a value is one alone.
-missing_value : {A : Type 0} {v : Float} → Pointed.Missing ≡ Pointed.Value v → A
+missing_value : {A : Type 0} {v : Float} → ◌≡◌ {A = Result (Option Float) Refusal} (Ok None) (Ok (Some v)) → A
 missing_value e = apart cc
 
-missing_refused : {A : Type 0} {r : Refusal} → Pointed.Missing ≡ Pointed.Refused r → A
+missing_refused : {A : Type 0} {r : Refusal} → ◌≡◌ {A = Result (Option Float) Refusal} (Ok None) (Err r) → A
 missing_refused e = apart cc
 
-value_refused : {A : Type 0} {v : Float} {r : Refusal} → Pointed.Value v ≡ Pointed.Refused r → A
+value_refused : {A : Type 0} {v : Float} {r : Refusal} → ◌≡◌ {A = Result (Option Float) Refusal} (Ok (Some v)) (Err r) → A
 value_refused e = apart cc
 
-one_value : {v w : Float} → Pointed.Value v ≡ Pointed.Value w → v ≡ w
+one_value : {v w : Float} → ◌≡◌ {A = Result (Option Float) Refusal} (Ok (Some v)) (Ok (Some w)) → v ≡ w
 one_value e = cc
 
 module _ (file : List ℕ) (d : Description) (n : ℕ) where
@@ -62,7 +61,7 @@ module _ (file : List ℕ) (d : Description) (n : ℕ) where
   abbrev told_value : Float
   told_value = value_of d.representation.r d.representation.e d.representation.d (nat_abs (integer_of file d (rank_of file d n)))
 
-  is_told : present_of file d n ≡ 1 → in_range → pointed_at file d n ≡ Pointed.Value told_value
+  is_told : present_of file d n ≡ 1 → in_range → pointed_at file d n ≡ Ok (Some told_value)
   unfolding value_of
   is_told present all = told_value_lem file d n present all
 
@@ -112,7 +111,7 @@ module _ (file : List ℕ) (d : Description) (n : ℕ) where
       alone_missing none)
 
 -- A point that the field has is told so.
-module _ (file : List ℕ) (k n : ℕ) {d : Description} (said : describe file k ≡ Described.As d) (below : n < points_of d.grid) where
+module _ (file : List ℕ) (k n : ℕ) {d : Description} (said : describe file k ≡ Ok d) (below : n < points_of d.grid) where
   pub point_at : point file k n ≡ pointed_at file d n
   point_at = ap (pointed_by file n point_length) said ∙ ap (point_if file d n) (point_taken n point_length point_length d.grid below (omega arith))
 
@@ -131,11 +130,11 @@ module _ (file : List ℕ) (k n : ℕ) {d : Description} (said : describe file k
       let q = told_alone.value told.0 told.1 in
       let x : p.x ≡ q.x = one_integer (sym p.standard ∙ q.standard) in
       let same : told.0 ≡ written = q.double ∙ ap (value_of d.representation.r d.representation.e d.representation.d) (sym x) ∙ sym p.double in
-      subst (λ (m : ℕ). Agrees (point file k n) written m) (sym (marked ∙ one)) (subst (λ (a : Pointed). Agrees a written 1) (sym (told.1 ∙ ap Pointed.Value same)) both_present))
+      subst (λ (m : ℕ). Agrees (point file k n) written m) (sym (marked ∙ one)) (subst (λ (a : Result (Option Float) Refusal). Agrees a written 1) (sym (told.1 ∙ ap (λ (v : Float). Ok (Some v)) same)) both_present))
       (λ is.
       let none : present_of file d n ≡ 0 = omega (arith, eqb-false (present_of file d n) 1 is, one_or_zero file d.presence (points_of d.grid) n) in
       subst (λ (m : ℕ). Agrees (point file k n) written m) (sym (marked ∙ none))
-      (subst (λ (v : Float). Agrees (point file k n) v 0) (sym (missing (marked ∙ none))) (subst (λ (a : Pointed). Agrees a (fin false 0 (pos 0)) 0) (sym (told_alone.missing.1 none)) both_missing)))
+      (subst (λ (v : Float). Agrees (point file k n) v 0) (sym (missing (marked ∙ none))) (subst (λ (a : Result (Option Float) Refusal). Agrees a (fin false 0 (pos 0)) 0) (sym (told_alone.missing.1 none)) both_missing)))
     where
       one_integer : {a b : ℕ} → pos a ≡ pos b → a ≡ b
       one_integer e = cc

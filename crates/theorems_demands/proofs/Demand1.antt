@@ -18,11 +18,8 @@ use Rattle.refusals.specs.Refusals.{refusal, number_of, order, step_of, steps_be
 use Rattle.refusals.proofs.Laws.{in_order}
 use Rattle.tiling_sections.specs.declared.Located.{Located}
 use Rattle.tiling_sections.specs.declared.Starts.{Starts}
-use Rattle.tiling_sections.specs.declared.Step.TheVariants as Step
 use Rattle.tiling_sections.specs.Walk.{nowhere}
 use Rattle.tiling_sections.specs.Stands as Stands
-use Rattle.tiling.specs.declared.Checked.{Checked}
-use Rattle.tiling.specs.declared.Header.TheVariants as Header
 use Rattle.tiling.specs.Heads as Heads
 use Rattle.tiling.specs.Tiling as Tiling
 use Rattle.tiling.specs.Tiling.{largest, InFile, tiling_of}
@@ -31,42 +28,30 @@ use Rattle.theorems_grammar.specs.Refusals.{Before, Faulty}
 use Rattle.theorems_grammar.proofs.Accepted.{tiles_so}
 use Rattle.theorems_grammar.proofs.Refusals.{refuses_so, check_refuses}
 use Rattle.section_1.specs.declared.Identification.{Identification}
-use Rattle.section_1.specs.declared.Identified.TheVariants as Identified
 use Rattle.section_1.specs.Identification.{identification_at}
 use Rattle.section_3_geometry.specs.declared.Grid.{Grid}
 use Rattle.section_3_geometry.specs.Geometry.{frame_of, points_of, template_of}
-use Rattle.section_3.specs.declared.Gridded.TheVariants as Gridded
 use Rattle.section_3.specs.Section3.{grid_at}
 use Rattle.section_4.specs.declared.ProductDefinition.{ProductDefinition}
-use Rattle.section_4.specs.declared.Defined.TheVariants as Defined
 use Rattle.section_4.specs.Product.{product_definition_at}
 use Rattle.section_5.specs.declared.Representation.{Representation}
-use Rattle.section_5.specs.declared.Represented.TheVariants as Represented
 use Rattle.section_5.specs.Representation.{representation_at}
 use Rattle.section_6.specs.declared.Presence.{Presence}
-use Rattle.section_6.specs.declared.Marked.TheVariants as Marked
 use Rattle.section_6.specs.Presence.{presence_at, present_at, present_before}
-use Rattle.section_7.specs.declared.Packed.TheVariants as Packed
 use Rattle.section_7.specs.Packing.{data_at}
 use Rattle.doubles.specs.Doubles.{is_in_range}
 use Rattle.values_integers.specs.Integers.{integer_at, are_in_range}
 use Rattle.values_integers.proofs.Range.{in_range_out, out_of_range}
 use Rattle.question.specs.declared.Description.{Description}
-use Rattle.question.specs.declared.Described.{Described}
 use Rattle.question.specs.Describe as Describe
 use Rattle.question.specs.Describe.{refused_at, packed, marked, represented, defined, gridded, described_at, field_in}
 use Rattle.question.specs.Judge.{Asks, integer_of, is_decodable, has_room, values_asked, description_length, numbers_asked, asked_of, judge}
 use Rattle.question.specs.Judged.{Judged}
 use Rattle.question.proofs.Laws.{described, described_judged, room_fits}
 use Rattle.question.proofs.Chain.{at_section_1, at_section_3, at_section_4, at_section_5, at_section_6, at_section_7}
-use Rattle.question_place.specs.declared.Asked.{Asked}
-use Rattle.question_place.specs.declared.OnDegrees.{OnDegrees}
-use Rattle.question_place.specs.declared.OnLambert.{OnLambert}
 use Rattle.question_place.specs.Place.{point_asked, placed_by, sheet_by, on_degrees, on_lambert}
 use Rattle.question_place.proofs.Laws.{kind_asked, point_of, in_degrees_as, on_lambert_as, degrees_alike, lambert_alike}
-use Rattle.question_decode.specs.Decoding.{Outcome, gives, refuses, outcome_by, outcome, answer_of, values_after, presence_after}
-use Rattle.question_decode.specs.Decoding.{present_of, rank_of}
-use Rattle.question_point.specs.declared.Pointed.{Pointed}
+use Rattle.question_decode.specs.Decoding.{Outcome, gives, refuses, outcome_by, outcome, answer_of, values_after, presence_after, present_of, rank_of}
 use Rattle.question_point.specs.Point as Point
 use Rattle.question_point.specs.Point.{point_if, point_asked_of, pointed_by}
 use Rattle.question_point.proofs.Laws.{told_out}
@@ -75,6 +60,10 @@ use Rattle.question_picture.specs.Picture.{picture_length, picture_asked}
 use Rattle.theorems_demands.specs.Questions.{Question, Verdict, of_checked, of_described, of_placed, of_sheet, of_degrees, of_lambert, of_decoded, of_pointed, of_pictured, verdict, check, describe, place, sheet, decode, point, picture, describe_into, place_into, sheet_into, point_into, answered, refused, refused_by}
 use Rattle.theorems_demands.specs.Demand1.{FieldAt, Names, describes, places, decodes, describes_into, places_into, sheets, sheets_into, tells, tells_into, draws, About, AsksPoint, in_degrees, in_degrees_into, on_sheet, on_sheet_into, its_value, its_value_into, AsksOf, for_place, for_place_into, for_sheet, for_sheet_into, AsksValue, a_value, a_value_into, Lends, lends, LendsOctets, lends_octets, LendsNumbers, for_degrees, for_lambert, Fault, Applies, First, Demand1}
 use Rattle.theorems_demands.specs.Demand1 as Spec
+use Rattle.std.specs.Prelude.{Some, None, Result, Ok, Err, ⊤}
+use Rattle.tiling.specs.declared.Counts.{Counts}
+use Rattle.section_3_geometry.specs.declared.DegreeGrid.{DegreeGrid}
+use Rattle.section_3_geometry.specs.declared.LambertGrid.{LambertGrid}
 
 -- All integers of a field are asked by decode and by a picture.
 data AsksAll : Question → Type 0 where
@@ -92,57 +81,57 @@ abbrev step : Refusal → ℕ
 step r = rank (number_of r.why)
 
 -- A field is refused by s, or by a refusal that comes before s.
-abbrev CaughtIn : Refusal → Described → Type 0
-CaughtIn s a = (r : Refusal) × (a ≡ Described.Refused r) × ((r ≡ s) ⊎ (step r < step s))
+abbrev CaughtIn : Refusal → Result Description Refusal → Type 0
+CaughtIn s a = (r : Refusal) × (a ≡ Err r) × ((r ≡ s) ⊎ (step r < step s))
 
-here : {s : Refusal} → CaughtIn s (Described.Refused s)
+here : {s : Refusal} → CaughtIn s (Err s)
 here {s} = (s, refl, inl refl)
 
-sooner : {s : Refusal} (t : Refusal) → step t < step s → CaughtIn s (Described.Refused t)
+sooner : {s : Refusal} (t : Refusal) → step t < step s → CaughtIn s (Err t)
 sooner t before = (t, refl, inr before)
 
 -- Each section in its turn: where it is not taken, that comes before s, and where it is taken, s is caught behind it.
 module _ (file : List ℕ) (l : Located) (s : Refusal) where
   past_1 :
       steps_before order 9 < step s →
-      ((i : Identification) → identification_at file l.starts.one.0 ≡ Identified.As i → CaughtIn s (gridded file l i (grid_at file l.starts.three.0))) →
+      ((i : Identification) → identification_at file l.starts.one.0 ≡ Some i → CaughtIn s (gridded file l i (grid_at file l.starts.three.0))) →
       CaughtIn s (described_at file l)
   past_1 before = at_section_1 file l (CaughtIn s) (λ _. sooner _ before)
 
   module _ (i : Identification) where
     past_3 :
         steps_before order 10 < step s →
-        ((g : Grid) → grid_at file l.starts.three.0 ≡ Gridded.On g → CaughtIn s (defined file l i g (product_definition_at file l.starts.four.0 i.reference))) →
+        ((g : Grid) → grid_at file l.starts.three.0 ≡ Some g → CaughtIn s (defined file l i g (product_definition_at file l.starts.four.0 i.reference))) →
         CaughtIn s (gridded file l i (grid_at file l.starts.three.0))
     past_3 before = at_section_3 file l (CaughtIn s) i (λ _. sooner _ before)
 
     module _ (g : Grid) where
       past_4 :
           steps_before order 11 < step s →
-          ((m : ProductDefinition) → product_definition_at file l.starts.four.0 i.reference ≡ Defined.As m → CaughtIn s (represented file l i g m (representation_at file l.starts.five.0))) →
+          ((m : ProductDefinition) → product_definition_at file l.starts.four.0 i.reference ≡ Some m → CaughtIn s (represented file l i g m (representation_at file l.starts.five.0))) →
           CaughtIn s (defined file l i g (product_definition_at file l.starts.four.0 i.reference))
       past_4 before = at_section_4 file l (CaughtIn s) i g (λ _. sooner _ before)
 
       module _ (m : ProductDefinition) where
         past_5 :
             steps_before order 12 < step s →
-            ((r : Representation) → representation_at file l.starts.five.0 ≡ Represented.By r → CaughtIn s (marked file l i g m r (presence_at file l.starts.six.0 l.bitmap (points_of g) r.n))) →
+            ((r : Representation) → representation_at file l.starts.five.0 ≡ Some r → CaughtIn s (marked file l i g m r (presence_at file l.starts.six.0 l.bitmap (points_of g) r.n))) →
             CaughtIn s (represented file l i g m (representation_at file l.starts.five.0))
         past_5 before = at_section_5 file l (CaughtIn s) i g m (λ _. sooner _ before)
 
         module _ (r : Representation) where
           past_6 :
               steps_before order 13 < step s →
-              ((p : Presence) → presence_at file l.starts.six.0 l.bitmap (points_of g) r.n ≡ Marked.As p → CaughtIn s (packed file l i g m r p (data_at file l.starts.seven.0 r))) →
+              ((p : Presence) → presence_at file l.starts.six.0 l.bitmap (points_of g) r.n ≡ Some p → CaughtIn s (packed file l i g m r p (data_at file l.starts.seven.0 r))) →
               CaughtIn s (marked file l i g m r (presence_at file l.starts.six.0 l.bitmap (points_of g) r.n))
           past_6 before = at_section_6 file l (CaughtIn s) i g m r (λ _. sooner _ before)
 
 -- A section that is not taken is caught, whatever else is wrong with the field.
 module _ (file : List ℕ) (l : Located) where
-  caught_1 : identification_at file l.starts.one.0 ≡ Identified.NotTaken → CaughtIn (refusal Why.BadIdentification l.starts.one.0) (described_at file l)
+  caught_1 : identification_at file l.starts.one.0 ≡ None → CaughtIn (refusal Why.BadIdentification l.starts.one.0) (described_at file l)
   caught_1 fails = at_section_1 file l (CaughtIn _) (λ _. here) (λ i taken. apart cc)
 
-  caught_3 : grid_at file l.starts.three.0 ≡ Gridded.NotTaken → CaughtIn (refusal Why.BadGrid l.starts.three.0) (described_at file l)
+  caught_3 : grid_at file l.starts.three.0 ≡ None → CaughtIn (refusal Why.BadGrid l.starts.three.0) (described_at file l)
   caught_3 fails =
       past_1 file l _ (omega (arith, in_order))
       (λ i _. at_section_3 file l (CaughtIn _) i (λ _. here)
@@ -150,8 +139,8 @@ module _ (file : List ℕ) (l : Located) where
 
   caught_4 :
       {i : Identification} →
-      identification_at file l.starts.one.0 ≡ Identified.As i →
-      product_definition_at file l.starts.four.0 i.reference ≡ Defined.NotTaken →
+      identification_at file l.starts.one.0 ≡ Some i →
+      product_definition_at file l.starts.four.0 i.reference ≡ None →
       CaughtIn (refusal Why.BadProduct l.starts.four.0) (described_at file l)
   caught_4 {i} of_one fails =
       past_1 file l _ (omega (arith, in_order))
@@ -159,7 +148,7 @@ module _ (file : List ℕ) (l : Located) where
       (λ g _. at_section_4 file l (CaughtIn _) j g (λ _. here)
       (λ m taken. let same : i ≡ j = cc in apart cc)))
 
-  caught_5 : representation_at file l.starts.five.0 ≡ Represented.NotTaken → CaughtIn (refusal Why.BadRepresentation l.starts.five.0) (described_at file l)
+  caught_5 : representation_at file l.starts.five.0 ≡ None → CaughtIn (refusal Why.BadRepresentation l.starts.five.0) (described_at file l)
   caught_5 fails =
       past_1 file l _ (omega (arith, in_order))
       (λ i _. past_3 file l _ i (omega (arith, in_order))
@@ -169,9 +158,9 @@ module _ (file : List ℕ) (l : Located) where
 
   caught_6 :
       {g : Grid} {r : Representation} →
-      grid_at file l.starts.three.0 ≡ Gridded.On g →
-      representation_at file l.starts.five.0 ≡ Represented.By r →
-      presence_at file l.starts.six.0 l.bitmap (points_of g) r.n ≡ Marked.NotTaken →
+      grid_at file l.starts.three.0 ≡ Some g →
+      representation_at file l.starts.five.0 ≡ Some r →
+      presence_at file l.starts.six.0 l.bitmap (points_of g) r.n ≡ None →
       CaughtIn (refusal Why.BadBitmap l.starts.six.0) (described_at file l)
   caught_6 {g} {r} of_three of_five fails =
       past_1 file l _ (omega (arith, in_order))
@@ -183,8 +172,8 @@ module _ (file : List ℕ) (l : Located) where
 
   caught_7 :
       {r : Representation} →
-      representation_at file l.starts.five.0 ≡ Represented.By r →
-      data_at file l.starts.seven.0 r ≡ Packed.NotTaken →
+      representation_at file l.starts.five.0 ≡ Some r →
+      data_at file l.starts.seven.0 r ≡ None →
       CaughtIn (refusal Why.BadPacking l.starts.seven.0) (described_at file l)
   caught_7 {r} of_five fails =
       past_1 file l _ (omega (arith, in_order))
@@ -195,8 +184,8 @@ module _ (file : List ℕ) (l : Located) where
       (λ p _. at_section_7 file l (CaughtIn _) i g m q p (λ _. here)
       (λ x taken. let alike : r ≡ q = cc in apart cc))))))
 
-  abbrev CaughtOr : Refusal → Described → Type 0
-  CaughtOr s a = CaughtIn s a ⊎ ((d : Description) × (a ≡ Described.As d))
+  abbrev CaughtOr : Refusal → Result Description Refusal → Type 0
+  CaughtOr s a = CaughtIn s a ⊎ ((d : Description) × (a ≡ Ok d))
 
   -- Behind 14, the field is described, or it is refused by what comes before s.
   described_or : (s : Refusal) → steps_before order 14 < step s → CaughtOr s (described_at file l)
@@ -216,25 +205,25 @@ one_verdict : {number place other elsewhere : ℕ} → refused number place ≡ 
 one_verdict e = (cc, cc)
 
 -- What comes of a point that is asked for, in degrees or on the sheet, whoever asks.
-abbrev of_asked : Asked → Verdict
-of_asked Asked.Taken = answered
-of_asked (Asked.Refused r) = refused_by r
+abbrev of_asked : Result ⊤ Refusal → Verdict
+of_asked (Ok tt) = answered
+of_asked (Err r) = refused_by r
 
-placed_told : (n : ℕ) (o : OnDegrees) → of_placed (placed_by n o) ≡ of_asked (in_degrees_as o)
-placed_told n (OnDegrees.Grid g) = refl
-placed_told n (OnDegrees.Refused r) = refl
+placed_told : (n : ℕ) (o : Result DegreeGrid Refusal) → of_placed (placed_by n o) ≡ of_asked (in_degrees_as o)
+placed_told n (Ok g) = refl
+placed_told n (Err r) = refl
 
-degrees_told : (o : OnDegrees) → of_degrees o ≡ of_asked (in_degrees_as o)
-degrees_told (OnDegrees.Grid g) = refl
-degrees_told (OnDegrees.Refused r) = refl
+degrees_told : (o : Result DegreeGrid Refusal) → of_degrees o ≡ of_asked (in_degrees_as o)
+degrees_told (Ok g) = refl
+degrees_told (Err r) = refl
 
-sheet_told : (n : ℕ) (o : OnLambert) → of_sheet (sheet_by n o) ≡ of_asked (on_lambert_as o)
-sheet_told n (OnLambert.Grid g) = refl
-sheet_told n (OnLambert.Refused r) = refl
+sheet_told : (n : ℕ) (o : Result LambertGrid Refusal) → of_sheet (sheet_by n o) ≡ of_asked (on_lambert_as o)
+sheet_told n (Ok g) = refl
+sheet_told n (Err r) = refl
 
-lambert_told : (o : OnLambert) → of_lambert o ≡ of_asked (on_lambert_as o)
-lambert_told (OnLambert.Grid g) = refl
-lambert_told (OnLambert.Refused r) = refl
+lambert_told : (o : Result LambertGrid Refusal) → of_lambert o ≡ of_asked (on_lambert_as o)
+lambert_told (Ok g) = refl
+lambert_told (Err r) = refl
 
 -- The two sorts of questions about a point: where it lies, on grids of one template, and what its value is; each for a run of this length.
 data AsksPlace : Question → (template n room : ℕ) → Type 0 where
@@ -291,7 +280,7 @@ told file q s (r, given, inr before) = (r, given, inr before)
 tiling_step : {file : List ℕ} {p : ℕ} {r : Refusal} → Faulty file p r → step r ≡ steps_before order 3
 tiling_step (Refusals.Faulty.heading heads) = by heads
   where
-    by : {file : List ℕ} {p : ℕ} {why : declaredWhy.Why} → Heads.Heads file p (Header.Bad why) → steps_before order (step_of (number_of why)) ≡ steps_before order 3
+    by : {file : List ℕ} {p : ℕ} {why : declaredWhy.Why} → Heads.Heads file p (Err why) → steps_before order (step_of (number_of why)) ≡ steps_before order 3
     by (Heads.few h) = refl
     by (Heads.strange h opens) = refl
     by (Heads.short opens h) = refl
@@ -299,7 +288,7 @@ tiling_step (Refusals.Faulty.heading heads) = by heads
     by (Heads.endless holds h) = refl
 tiling_step (Refusals.Faulty.section heads before stands) = by stands
   where
-    by : {file : List ℕ} {q e n : ℕ} {why : declaredWhy.Why} → Stands.Stands file q e n (Step.Bad why) → steps_before order (step_of (number_of why)) ≡ steps_before order 3
+    by : {file : List ℕ} {q e n : ℕ} {why : declaredWhy.Why} → Stands.Stands file q e n (Err why) → steps_before order (step_of (number_of why)) ≡ steps_before order 3
     by (Stands.unfinished end after) = refl
     by (Stands.misfit inside fits) = refl
     by (Stands.strange fits after) = refl
@@ -311,7 +300,7 @@ module _ (file : List ℕ) where
       ∙ rw (lt-ltb k (length at.fields) at.below) (ap (described_at file) at.lies)
 
   -- A question about field k is refused where describe refuses it.
-  asked : {q : Question} {k : ℕ} {r : Refusal} → Names q k → Describe.describe file k ≡ Described.Refused r → verdict file q ≡ refused_by r
+  asked : {q : Question} {k : ℕ} {r : Refusal} → Names q k → Describe.describe file k ≡ Err r → verdict file q ≡ refused_by r
   asked describes e = rw e
   asked places e = rw e
   asked decodes e = rw e
@@ -347,29 +336,29 @@ module _ (file : List ℕ) where
       {q : Question} {l : Located} {d : Description} {r : Refusal} {start values presence : ℕ} →
       About file q l →
       Lends q start values presence →
-      described_at file l ≡ Described.As d →
-      values_asked file start values presence d ≡ Described.Refused r →
+      described_at file l ≡ Ok d →
+      values_asked file start values presence d ≡ Err r →
       verdict file q ≡ refused_by r
   decoded_as {l = l} {r = r} about (lends {k = k} {start = start} {values = values} {presence = presence}) said e = by about.names about.lies
     where
       by : {j : ℕ} → Names (decode k start values presence) j → FieldAt file j l → verdict file (decode k start values presence) ≡ refused_by r
       by decodes at =
-          ap (λ (a : Described). of_decoded (answer_of (outcome_by file (asked_of file (Asks.Values start values presence) a)))) (described_is at ∙ said)
-          ∙ ap (λ (a : Described). of_decoded (answer_of (outcome_by file a))) e
+          ap (λ (a : Result Description Refusal). of_decoded (answer_of (outcome_by file (asked_of file (Asks.Values start values presence) a)))) (described_is at ∙ said)
+          ∙ ap (λ (a : Result Description Refusal). of_decoded (answer_of (outcome_by file a))) e
 
   -- What picture answers of a field that is described.
   drawn_as :
       {q : Question} {l : Located} {d : Description} {r : Refusal} {room : ℕ} →
       About file q l →
       LendsOctets q room →
-      described_at file l ≡ Described.As d →
+      described_at file l ≡ Ok d →
       picture_asked file room d ≡ Picture.refuses r →
       verdict file q ≡ refused_by r
   drawn_as {l = l} {r = r} about (lends_octets {k} {room}) said e = by about.names about.lies
     where
       by : {j : ℕ} → Names (picture k room) j → FieldAt file j l → verdict file (picture k room) ≡ refused_by r
       by draws at =
-          ap (λ (a : Described). of_pictured (Picture.pictured_by (Picture.drawing_by file room a))) (described_is at ∙ said)
+          ap (λ (a : Result Description Refusal). of_pictured (Picture.pictured_by (Picture.drawing_by file room a))) (described_is at ∙ said)
           ∙ ap (λ (o : Picture.Drawing). of_pictured (Picture.pictured_by o)) e
 
   -- A question where a point lies is judged by the kind of the grid, then by the point, and then by the room.
@@ -407,8 +396,8 @@ module _ (file : List ℕ) where
       {q : Question} {l : Located} {d : Description} {r : Refusal} {template n room : ℕ} →
       About file q l →
       AsksPlace q template n room →
-      described_at file l ≡ Described.As d →
-      kind_asked template n room d.grid ≡ Asked.Refused r →
+      described_at file l ≡ Ok d →
+      kind_asked template n room d.grid ≡ Err r →
       verdict file q ≡ refused_by r
   place_refused {template = template} {n = n} {room = room} about lent said e =
       place_verdict lent about.names ∙ ap of_asked (ap (point_of template n room) (described_is about.lies ∙ said) ∙ e)
@@ -417,8 +406,8 @@ module _ (file : List ℕ) where
       {q : Question} {l : Located} {d : Description} {r : Refusal} {n room : ℕ} →
       About file q l →
       AsksIn q n room →
-      described_at file l ≡ Described.As d →
-      point_asked_of file n room d ≡ Pointed.Refused r →
+      described_at file l ≡ Ok d →
+      point_asked_of file n room d ≡ Err r →
       verdict file q ≡ refused_by r
   value_refused {n = n} {room = room} about lent said e =
       value_verdict lent about.names ∙ ap of_pointed (ap (pointed_by file n room) (described_is about.lies ∙ said) ∙ e)
@@ -428,8 +417,8 @@ module _ (file : List ℕ) where
       {q : Question} {l : Located} {d : Description} {r : Refusal} {n needed room : ℕ} →
       About file q l →
       AsksPoint q n needed room →
-      described_at file l ≡ Described.As d →
-      point_asked n needed room d.grid ≡ Asked.Refused r →
+      described_at file l ≡ Ok d →
+      point_asked n needed room d.grid ≡ Err r →
       (verdict file q ≡ refused_by r) ⊎ (verdict file q ≡ refused_by (refusal Why.OtherGrid 0))
   point_refused {q} {l} {d} {r} {n} {needed} {room} about lent said e = by (sort_of lent)
     where
@@ -445,7 +434,7 @@ module _ (file : List ℕ) where
       {q : Question} {l : Located} {g : Grid} {template : ℕ} →
       About file q l →
       AsksOf q template →
-      grid_at file l.starts.three.0 ≡ Gridded.On g →
+      grid_at file l.starts.three.0 ≡ Some g →
       (template_of g ≡ template → ⊥) →
       Caught file q (refusal Why.OtherGrid 0)
   other {q} {l} {g} {template} about lent of_three differs = by (described_or file l (refusal Why.OtherGrid 0) (omega (arith, in_order)))
@@ -467,7 +456,7 @@ module _ (file : List ℕ) where
       {q : Question} {l : Located} {g : Grid} {n needed room : ℕ} →
       About file q l →
       AsksPoint q n needed room →
-      grid_at file l.starts.three.0 ≡ Gridded.On g →
+      grid_at file l.starts.three.0 ≡ Some g →
       points_of g ≤ n →
       Caught file q (refusal Why.NoSuchPoint 0)
   beyond {q} {l} {g} {n} about lent of_three few = by (described_or file l (refusal Why.NoSuchPoint 0) (omega (arith, in_order)))
@@ -499,18 +488,18 @@ module _ (file : List ℕ) where
   short :
       {q : Question} {l : Located} {g : Grid} {needed room : ℕ} →
       About file q l →
-      grid_at file l.starts.three.0 ≡ Gridded.On g →
+      grid_at file l.starts.three.0 ≡ Some g →
       LendsNumbers q g needed room →
       room < needed →
       Caught file q (refusal Why.NoRoom 0)
   short {q} {l} {g} about of_three lent few = by (described_or file l (refusal Why.NoRoom 0) (omega (arith, in_order)))
     where
-      told_short : {k room : ℕ} {d : Description} → room < description_length d.grid → {j : ℕ} → Names (describe_into k room) j → FieldAt file j l → described_at file l ≡ Described.As d →
+      told_short : {k room : ℕ} {d : Description} → room < description_length d.grid → {j : ℕ} → Names (describe_into k room) j → FieldAt file j l → described_at file l ≡ Ok d →
           verdict file (describe_into k room) ≡ refused 15 0
       told_short {room = room} {d = d} less describes_into at said =
-          ap (λ (a : Described). of_described (asked_of file (Asks.Numbers room) a)) (described_is at ∙ said) ∙ rw (lt-ltb room (description_length d.grid) less)
+          ap (λ (a : Result Description Refusal). of_described (asked_of file (Asks.Numbers room) a)) (described_is at ∙ said) ∙ rw (lt-ltb room (description_length d.grid) less)
 
-      lacking : {q : Question} {h : Grid} {needed room : ℕ} (d : Description) → About file q l → h ≡ d.grid → LendsNumbers q h needed room → room < needed → described_at file l ≡ Described.As d → Caught file q (refusal Why.NoRoom 0)
+      lacking : {q : Question} {h : Grid} {needed room : ℕ} (d : Description) → About file q l → h ≡ d.grid → LendsNumbers q h needed room → room < needed → described_at file l ≡ Ok d → Caught file q (refusal Why.NoRoom 0)
       lacking d about same (for_degrees {room = room}) less said = (refusal Why.NoRoom 0, told_short (subst (λ (h : Grid). room < description_length h) same less) about.names about.lies said, inl refl)
       lacking d about same (for_lambert {room = room}) less said = (refusal Why.NoRoom 0, told_short (subst (λ (h : Grid). room < description_length h) same less) about.names about.lies said, inl refl)
 
@@ -526,7 +515,7 @@ module _ (file : List ℕ) where
       {q : Question} {l : Located} {g : Grid} (start values presence : ℕ) →
       About file q l →
       Lends q start values presence →
-      grid_at file l.starts.three.0 ≡ Gridded.On g →
+      grid_at file l.starts.three.0 ≡ Some g →
       ((start + points_of g ≤ values) × (start + points_of g ≤ presence) → ⊥) →
       Caught file q (refusal Why.NoRoom 0)
   full {q} {l} {g} start values presence about lent of_three fits = by (described_or file l (refusal Why.NoRoom 0) (omega (arith, in_order)))
@@ -545,7 +534,7 @@ module _ (file : List ℕ) where
       {q : Question} {l : Located} {g : Grid} {room : ℕ} →
       About file q l →
       LendsOctets q room →
-      grid_at file l.starts.three.0 ≡ Gridded.On g →
+      grid_at file l.starts.three.0 ≡ Some g →
       room < picture_length (frame_of g) →
       Caught file q (refusal Why.NoRoom 0)
   cramped_picture {q} {l} {g} {room} about lent of_three less = by (described_or file l (refusal Why.NoRoom 0) (omega (arith, in_order)))
@@ -562,14 +551,14 @@ module _ (file : List ℕ) where
       {q : Question} {l : Located} {r : Representation} (m : ℕ) →
       About file q l →
       AsksAll q →
-      representation_at file l.starts.five.0 ≡ Represented.By r →
+      representation_at file l.starts.five.0 ≡ Some r →
       m < r.n →
       is_in_range (integer_at file l.starts.seven.0 r m) ≡ false →
       Caught file q (refusal Why.ValueOutOfRange l.starts.seven.0)
   out {q} {l} {r} m about asks of_five among outside = by (described_or file l (refusal Why.ValueOutOfRange l.starts.seven.0) (omega (arith, in_order)))
     where
       -- Behind 15, where a field is described whose integers are not all in their range.
-      refused_all : {q : Question} (d : Description) → About file q l → AsksAll q → described_at file l ≡ Described.As d → is_decodable file d ≡ false → l.starts.seven.0 ≡ d.starts.seven.0 →
+      refused_all : {q : Question} (d : Description) → About file q l → AsksAll q → described_at file l ≡ Ok d → is_decodable file d ≡ false → l.starts.seven.0 ≡ d.starts.seven.0 →
           Caught file q (refusal Why.ValueOutOfRange l.starts.seven.0)
       refused_all d about (all_values {k} {start} {values} {presence}) said fails seven =
           split (has_room start (points_of d.grid) values presence)
@@ -595,9 +584,9 @@ module _ (file : List ℕ) where
       {q : Question} {l : Located} {g : Grid} {r : Representation} {p : Presence} {n : ℕ} (j : ℕ) →
       About file q l →
       AsksValue q n →
-      grid_at file l.starts.three.0 ≡ Gridded.On g →
-      representation_at file l.starts.five.0 ≡ Represented.By r →
-      presence_at file l.starts.six.0 l.bitmap (points_of g) r.n ≡ Marked.As p →
+      grid_at file l.starts.three.0 ≡ Some g →
+      representation_at file l.starts.five.0 ≡ Some r →
+      presence_at file l.starts.six.0 l.bitmap (points_of g) r.n ≡ Some p →
       present_at file p (points_of g) n ≡ 1 →
       j ≤ present_before file p (points_of g) n →
       is_in_range (integer_at file l.starts.seven.0 r j) ≡ false →
@@ -612,7 +601,7 @@ module _ (file : List ℕ) where
           let of_representation = judged.of_five in
           let grids : g ≡ d.grid = cc in
           let alike : r ≡ d.representation = cc in
-          let of-presence : presence_at file l.starts.six.0 l.bitmap (points_of g) r.n ≡ Marked.As d.presence = rw (grids, alike) judged.of_six in
+          let of-presence : presence_at file l.starts.six.0 l.bitmap (points_of g) r.n ≡ Some d.presence = rw (grids, alike) judged.of_six in
           let marks : p ≡ d.presence = cc in
           let seven : l.starts.seven.0 ≡ d.starts.seven.0 = ap (λ (s : Starts). s.seven.0) (sym judged.of_starts) in
           let here : present_of file d n ≡ 1 = rw (← grids, ← marks) present in
@@ -669,14 +658,14 @@ module _ (file : List ℕ) where
   abbrev AppliesBy : Question → Refusal → Type 0
   AppliesBy q r = Applies file q (number_of r.why) r.place.0
 
-  heading_applies : {q : Question} {p : ℕ} {why : declaredWhy.Why} → Heads.Heads file p (Header.Bad why) → Fault file why p → AppliesBy q (refusal why p)
+  heading_applies : {q : Question} {p : ℕ} {why : declaredWhy.Why} → Heads.Heads file p (Err why) → Fault file why p → AppliesBy q (refusal why p)
   heading_applies (Heads.few h) f = Spec.cut f
   heading_applies (Heads.strange h opens) f = Spec.not_grib_2 f
   heading_applies (Heads.short opens h) f = Spec.bad_length f
   heading_applies (Heads.long opens least h) f = Spec.cut f
   heading_applies (Heads.endless holds h) f = Spec.no_end f
 
-  section_applies : {q : Question} {p e n : ℕ} {why : declaredWhy.Why} → Stands.Stands file p e n (Step.Bad why) → Fault file why p → AppliesBy q (refusal why p)
+  section_applies : {q : Question} {p e n : ℕ} {why : declaredWhy.Why} → Stands.Stands file p e n (Err why) → Fault file why p → AppliesBy q (refusal why p)
   section_applies (Stands.unfinished end after) f = Spec.out_of_place f
   section_applies (Stands.misfit inside fits) f = Spec.bad_length f
   section_applies (Stands.strange fits after) f = Spec.out_of_place f
@@ -692,16 +681,16 @@ module _ (file : List ℕ) where
   file_applies (Refusals.Refused.message some few before inside faulty) = fault_applies before inside faulty
 
   -- Where a field is described, it lies somewhere, and its sections are taken.
-  pub described_at_lem : (k : ℕ) {d : Description} → Describe.describe file k ≡ Described.As d → (l : Located) × FieldAt file k l × Judged file l d
+  pub described_at_lem : (k : ℕ) {d : Description} → Describe.describe file k ≡ Ok d → (l : Located) × FieldAt file k l × Judged file l d
   described_at_lem k said =
       let known = described file k said in
       let at = known.1 in
       (known.0, record { messages = at.messages; fields = at.fields; accepted = (tiles_so file at.messages at.fields).0 at.tiles; below = at.below; lies = at.lies }, known.2)
 
-  abbrev Explained : Question → Described → Type 0
-  Explained q a = (r : Refusal) → a ≡ Described.Refused r → AppliesBy q r
+  abbrev Explained : Question → Result Description Refusal → Type 0
+  Explained q a = (r : Refusal) → a ≡ Err r → AppliesBy q r
 
-  explain : {q : Question} {t : Refusal} → AppliesBy q t → Explained q (Described.Refused t)
+  explain : {q : Question} {t : Refusal} → AppliesBy q t → Explained q (Err t)
   explain {q} {t} applies r same = let alike : t ≡ r = cc in subst (AppliesBy q) alike applies
 
   module _ {q : Question} {k : ℕ} (names : Names q k) where
@@ -727,14 +716,14 @@ module _ (file : List ℕ) where
         by (Tiling.refused f) is = explain (file_applies ((refuses_so file f).0 is))
 
     -- The same, where the field is described and what else is asked is refused.
-    judged_applies : (wanted : Asks) → ((d : Description) → Describe.describe file k ≡ Described.As d → Explained q (asked_of file wanted (Described.As d))) → Explained q (judge file k wanted)
+    judged_applies : (wanted : Asks) → ((d : Description) → Describe.describe file k ≡ Ok d → Explained q (asked_of file wanted (Ok d))) → Explained q (judge file k wanted)
     judged_applies wanted behind = by (Describe.describe file k) refl
       where
-        by : (a : Described) → Describe.describe file k ≡ a → Explained q (asked_of file wanted a)
-        by (Described.As d) said = behind d said
-        by (Described.Refused f) said = λ r same. described_applies r (said ∙ same)
+        by : (a : Result Description Refusal) → Describe.describe file k ≡ a → Explained q (asked_of file wanted a)
+        by (Ok d) said = behind d said
+        by (Err f) said = λ r same. described_applies r (said ∙ same)
 
-  numbers_applies : (k room : ℕ) (d : Description) → Describe.describe file k ≡ Described.As d → Explained (describe_into k room) (numbers_asked room d)
+  numbers_applies : (k room : ℕ) (d : Description) → Describe.describe file k ≡ Ok d → Explained (describe_into k room) (numbers_asked room d)
   numbers_applies k room d said =
       split (ltb room (description_length d.grid))
       (λ few. rw few (explain (by d.grid (described_at_lem k said).2.of_three (ltb-true room (description_length d.grid) few))))
@@ -743,18 +732,18 @@ module _ (file : List ℕ) where
       about : About file (describe_into k room) (described_at_lem k said).0
       about = record { k = k; names = describes_into; lies = (described_at_lem k said).1 }
 
-      by : (g : Grid) → grid_at file (described_at_lem k said).0.starts.three.0 ≡ Gridded.On g → room < description_length g → AppliesBy (describe_into k room) (refusal Why.NoRoom 0)
+      by : (g : Grid) → grid_at file (described_at_lem k said).0.starts.three.0 ≡ Some g → room < description_length g → AppliesBy (describe_into k room) (refusal Why.NoRoom 0)
       by (Grid.Degrees g) of_three few = Spec.no_room_for_numbers about of_three for_degrees few
       by (Grid.Lambert g) of_three few = Spec.no_room_for_numbers about of_three for_lambert few
 
   -- What is refused of a point applies: of the field, or of its kind, its number and its room.
-  abbrev ExplainedPoint : Question → Asked → Type 0
-  ExplainedPoint q a = (r : Refusal) → a ≡ Asked.Refused r → AppliesBy q r
+  abbrev ExplainedPoint : Question → Result ⊤ Refusal → Type 0
+  ExplainedPoint q a = (r : Refusal) → a ≡ Err r → AppliesBy q r
 
-  explain_point : {q : Question} {t : Refusal} → AppliesBy q t → ExplainedPoint q (Asked.Refused t)
+  explain_point : {q : Question} {t : Refusal} → AppliesBy q t → ExplainedPoint q (Err t)
   explain_point {q} {t} applies r same = let alike : t ≡ r = cc in subst (AppliesBy q) alike applies
 
-  kind_applies : {q : Question} {k template n room : ℕ} → Names q k → AsksPlace q template n room → (d : Description) → Describe.describe file k ≡ Described.As d → ExplainedPoint q (kind_asked template n room d.grid)
+  kind_applies : {q : Question} {k template n room : ℕ} → Names q k → AsksPlace q template n room → (d : Description) → Describe.describe file k ≡ Ok d → ExplainedPoint q (kind_asked template n room d.grid)
   kind_applies {q} {k} {template} {n} {room} names lent d said =
       let at = described_at_lem k said in
       let about : About file q at.0 = record { k = k; names = names; lies = at.1 } in
@@ -771,11 +760,11 @@ module _ (file : List ℕ) where
   point_applies : {q : Question} {k template n room : ℕ} → Names q k → AsksPlace q template n room → ExplainedPoint q (point_of template n room (Describe.describe file k))
   point_applies {q} {k} {template} {n} {room} names lent = by (Describe.describe file k) refl
     where
-      by : (a : Described) → Describe.describe file k ≡ a → ExplainedPoint q (point_of template n room a)
-      by (Described.As d) said = kind_applies names lent d said
-      by (Described.Refused f) said = λ r same. let alike : f ≡ r = cc in described_applies names r (subst (λ (x : Refusal). Describe.describe file k ≡ Described.Refused x) alike said)
+      by : (a : Result Description Refusal) → Describe.describe file k ≡ a → ExplainedPoint q (point_of template n room a)
+      by (Ok d) said = kind_applies names lent d said
+      by (Err f) said = λ r same. let alike : f ≡ r = cc in described_applies names r (subst (λ (x : Refusal). Describe.describe file k ≡ Err x) alike said)
 
-  stretch_applies : (k start values presence : ℕ) (d : Description) → Describe.describe file k ≡ Described.As d → Explained (decode k start values presence) (values_asked file start values presence d)
+  stretch_applies : (k start values presence : ℕ) (d : Description) → Describe.describe file k ≡ Ok d → Explained (decode k start values presence) (values_asked file start values presence d)
   stretch_applies k start values presence d said =
       let at = described_at_lem k said in
       split (has_room start (points_of d.grid) values presence)
@@ -806,12 +795,12 @@ module _ (file : List ℕ) where
   told_point : {q : Question} {k template n room m p : ℕ} → Names q k → AsksPlace q template n room → verdict file q ≡ refused m p → Applies file q m p
   told_point {q} {k} {template} {n} {room} {m} {p} names lent e = by (point_of template n room (Describe.describe file k)) refl (sym (place_verdict lent names) ∙ e)
     where
-      by : (a : Asked) → point_of template n room (Describe.describe file k) ≡ a → of_asked a ≡ refused m p → Applies file q m p
-      by Asked.Taken said e = clash_verdict e
-      by (Asked.Refused f) said e = told_applies f e (point_applies names lent f said)
+      by : (a : Result ⊤ Refusal) → point_of template n room (Describe.describe file k) ≡ a → of_asked a ≡ refused m p → Applies file q m p
+      by (Ok tt) said e = clash_verdict e
+      by (Err f) said e = told_applies f e (point_applies names lent f said)
 
   -- What is refused of a point's value applies: of the field, of the point, of the room, or of an integer up to its own.
-  pointed_applies : {q : Question} {k n room m p : ℕ} → Names q k → AsksIn q n room → (d : Description) → Describe.describe file k ≡ Described.As d → of_pointed (point_asked_of file n room d) ≡ refused m p → Applies file q m p
+  pointed_applies : {q : Question} {k n room m p : ℕ} → Names q k → AsksIn q n room → (d : Description) → Describe.describe file k ≡ Ok d → of_pointed (point_asked_of file n room d) ≡ refused m p → Applies file q m p
   pointed_applies {q} {k} {n} {room} names lent d said e =
       let at = described_at_lem k said in
       let about : About file q at.0 = record { k = k; names = names; lies = at.1 } in
@@ -836,12 +825,12 @@ module _ (file : List ℕ) where
   told_value_of : {q : Question} {k n room m p : ℕ} → Names q k → AsksIn q n room → verdict file q ≡ refused m p → Applies file q m p
   told_value_of {q} {k} {n} {room} {m} {p} names lent e = by (Describe.describe file k) refl (sym (value_verdict lent names) ∙ e)
     where
-      by : (a : Described) → Describe.describe file k ≡ a → of_pointed (pointed_by file n room a) ≡ refused m p → Applies file q m p
-      by (Described.As d) said e = pointed_applies names lent d said e
-      by (Described.Refused f) said e = told_applies f e (described_applies names f said)
+      by : (a : Result Description Refusal) → Describe.describe file k ≡ a → of_pointed (pointed_by file n room a) ≡ refused m p → Applies file q m p
+      by (Ok d) said e = pointed_applies names lent d said e
+      by (Err f) said e = told_applies f e (described_applies names f said)
 
   -- What is refused of a picture applies: of the field, of the room, or of one of its integers.
-  drawn_applies : {m p : ℕ} (k room : ℕ) (d : Description) → Describe.describe file k ≡ Described.As d → of_pictured (Picture.pictured_by (picture_asked file room d)) ≡ refused m p → Applies file (picture k room) m p
+  drawn_applies : {m p : ℕ} (k room : ℕ) (d : Description) → Describe.describe file k ≡ Ok d → of_pictured (Picture.pictured_by (picture_asked file room d)) ≡ refused m p → Applies file (picture k room) m p
   drawn_applies k room d said e =
       let at = described_at_lem k said in
       let about : About file (picture k room) at.0 = record { k = k; names = draws; lies = at.1 } in
@@ -859,39 +848,39 @@ module _ (file : List ℕ) where
   applies_of : {m p : ℕ} (q : Question) → verdict file q ≡ refused m p → Applies file q m p
   applies_of {m} {p} check e = by (Tiling.check file) refl e
     where
-      by : (a : Checked) → Tiling.check file ≡ a → of_checked a ≡ refused m p → Applies file check m p
-      by (Checked.Counts messages fields) said e = clash_verdict e
-      by (Checked.Refused f) said e = told_applies f e (file_applies ((check_refuses file f).0 said))
+      by : (a : Result Counts Refusal) → Tiling.check file ≡ a → of_checked a ≡ refused m p → Applies file check m p
+      by (Ok both) said e = clash_verdict e
+      by (Err f) said e = told_applies f e (file_applies ((check_refuses file f).0 said))
   applies_of {m} {p} (describe k) e = by (Describe.describe file k) refl e
     where
-      by : (a : Described) → Describe.describe file k ≡ a → of_described a ≡ refused m p → Applies file (describe k) m p
-      by (Described.As d) said e = clash_verdict e
-      by (Described.Refused f) said e = told_applies f e (described_applies describes f said)
+      by : (a : Result Description Refusal) → Describe.describe file k ≡ a → of_described a ≡ refused m p → Applies file (describe k) m p
+      by (Ok d) said e = clash_verdict e
+      by (Err f) said e = told_applies f e (described_applies describes f said)
   applies_of (place k n) e = told_point places degrees e
   applies_of (sheet k n) e = told_point sheets on_paper e
   applies_of {m} {p} (decode k start values presence) e = by (judge file k (Asks.Values start values presence)) refl e
     where
-      by : (a : Described) → judge file k (Asks.Values start values presence) ≡ a → of_decoded (answer_of (outcome_by file a)) ≡ refused m p → Applies file (decode k start values presence) m p
-      by (Described.As d) said e = clash_verdict e
-      by (Described.Refused f) said e = told_applies f e (judged_applies decodes (Asks.Values start values presence) (stretch_applies k start values presence) f said)
+      by : (a : Result Description Refusal) → judge file k (Asks.Values start values presence) ≡ a → of_decoded (answer_of (outcome_by file a)) ≡ refused m p → Applies file (decode k start values presence) m p
+      by (Ok d) said e = clash_verdict e
+      by (Err f) said e = told_applies f e (judged_applies decodes (Asks.Values start values presence) (stretch_applies k start values presence) f said)
   applies_of {m} {p} (describe_into k room) e = by (judge file k (Asks.Numbers room)) refl e
     where
-      by : (a : Described) → judge file k (Asks.Numbers room) ≡ a → of_described a ≡ refused m p → Applies file (describe_into k room) m p
-      by (Described.As d) said e = clash_verdict e
-      by (Described.Refused f) said e = told_applies f e (judged_applies describes_into (Asks.Numbers room) (numbers_applies k room) f said)
+      by : (a : Result Description Refusal) → judge file k (Asks.Numbers room) ≡ a → of_described a ≡ refused m p → Applies file (describe_into k room) m p
+      by (Ok d) said e = clash_verdict e
+      by (Err f) said e = told_applies f e (judged_applies describes_into (Asks.Numbers room) (numbers_applies k room) f said)
   applies_of (place_into k n room) e = told_point places_into degrees_into e
   applies_of (sheet_into k n room) e = told_point sheets_into on_paper_into e
   applies_of (point k n) e = told_value_of tells value e
   applies_of (point_into k n room) e = told_value_of tells_into value_into e
   applies_of {m} {p} (picture k room) e = by (Describe.describe file k) refl e
     where
-      by : (a : Described) → Describe.describe file k ≡ a → of_pictured (Picture.pictured_by (Picture.drawing_by file room a)) ≡ refused m p → Applies file (picture k room) m p
-      by (Described.As d) said e = drawn_applies k room d said e
-      by (Described.Refused f) said e = told_applies f e (described_applies draws f said)
+      by : (a : Result Description Refusal) → Describe.describe file k ≡ a → of_pictured (Picture.pictured_by (Picture.drawing_by file room a)) ≡ refused m p → Applies file (picture k room) m p
+      by (Ok d) said e = drawn_applies k room d said e
+      by (Err f) said e = told_applies f e (described_applies draws f said)
 
 -- Describe never refuses with 16: that comes behind all that it tries.
 module _ (file : List ℕ) where
-  abbrev NotOutside : Described → Type 0
+  abbrev NotOutside : Result Description Refusal → Type 0
   NotOutside a = (p : ℕ) → a ≡ refused_at Why.ValueOutOfRange p → ⊥
 
   other_number : (why : declaredWhy.Why) {a p : ℕ} → number_of why < 16 → refusal why a ≡ refusal Why.ValueOutOfRange p → ⊥

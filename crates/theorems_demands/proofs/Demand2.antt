@@ -31,17 +31,11 @@ use Rattle.section_3.proofs.Laws.{Passes}
 use Rattle.values_points.specs.Points.{point_value}
 use Rattle.values_integers.proofs.Range.{in_range_one}
 use Rattle.question.specs.declared.Description.{Description}
-use Rattle.question.specs.declared.Described.{Described}
 use Rattle.question.specs.Describe.{describe}
 use Rattle.question.specs.Judge.{Asks, Known, integer_of, is_decodable, has_room, asked_of, judge}
-use Rattle.question.proofs.Laws.{judged_described, judged_values, described_grid, room_fits}
-use Rattle.question_place.specs.declared.Placed.TheVariants as Placed
-use Rattle.question_place.specs.declared.OnSheet.TheVariants as OnSheet
-use Rattle.question_place.specs.declared.OnDegrees.{OnDegrees}
-use Rattle.question_place.specs.declared.OnLambert.{OnLambert}
+use Rattle.question.proofs.Laws.{one_answer, judged_described, judged_values, described_grid, room_fits}
 use Rattle.question_place.specs.Place.{place_length, on_degrees, on_lambert, placed_by, place, sheet_by, sheet}
 use Rattle.question_place.proofs.Laws.{Placeable, judged_degrees, degrees_judged, judged_lambert, lambert_judged, degrees_passes}
-use Rattle.question_decode.specs.declared.Decoded.TheVariants as Decoded
 use Rattle.question_decode.specs.Decoding as Decoding
 use Rattle.question_decode.specs.Decoding.{packing_by, present_of, rank_of, double_of, Outcome, outcome, outcome_by, answer_of, values_after, presence_after}
 use Rattle.question_decode.proofs.Laws.{one_or_zero, rank_among}
@@ -52,25 +46,17 @@ use Rattle.theorems_demands.proofs.Demand1.{described_is, described_at_lem, desc
 use Rattle.theorems_demands.proofs.Alone.{own_size, told_alone, agreed}
 use Rattle.theorems_demands.proofs.Numbers.{in_numbers}
 use Rattle.theorems_demands.proofs.Pictured.{drawn, as_seen}
+use Rattle.std.specs.Prelude.{Result, Ok, Err}
 
--- An answer is one alone.
-one_count : {a b : ℕ} → Decoded.Points a ≡ Decoded.Points b → a ≡ b
-one_count e = cc
-
-one_outside : {a b : ℕ} → Decoded.Refused (refusal Why.ValueOutOfRange a) ≡ Decoded.Refused (refusal Why.ValueOutOfRange b) → b ≡ a
+-- A refusal is one alone.
+one_outside : {a b : ℕ} → ◌≡◌ {A = Result ℕ Refusal} (Err (refusal Why.ValueOutOfRange a)) (Err (refusal Why.ValueOutOfRange b)) → b ≡ a
 one_outside {a} {b} e = let same : refusal Why.ValueOutOfRange a ≡ refusal Why.ValueOutOfRange b = cc in ap (λ (r : Refusal). r.place.0) (sym same)
 
-other_outside : {b : ℕ} → Decoded.Refused (refusal Why.NoRoom 0) ≡ Decoded.Refused (refusal Why.ValueOutOfRange b) → ⊥
+other_outside : {b : ℕ} → ◌≡◌ {A = Result ℕ Refusal} (Err (refusal Why.NoRoom 0)) (Err (refusal Why.ValueOutOfRange b)) → ⊥
 other_outside {b} e =
     let same : refusal Why.NoRoom 0 ≡ refusal Why.ValueOutOfRange b = cc in
     let numbers = ap (λ (r : Refusal). number_of r.why) same in
     absurd (omega arith)
-
-one_position : {a b : Position} → Placed.At a ≡ Placed.At b → a ≡ b
-one_position e = cc
-
-one_place : {a b : SheetPlace} → OnSheet.At a ≡ OnSheet.At b → a ≡ b
-one_place e = cc
 
 module _ (file : List ℕ) (d : Description) (known : Known file d) (all : is_decodable file d ≡ true) where
   pub present_met : (i : ℕ) → i < points_of d.grid → present_of file d i ≡ 1 → Present file d i (double_of file d i)
@@ -101,7 +87,7 @@ module _ (file : List ℕ) (c : Call) where
   -- The values of a field are given where it is described, there is room, and each of its integers is in its range.
   module _
       (d : Description)
-      (said : describe file c.k ≡ Described.As d)
+      (said : describe file c.k ≡ Ok d)
       (room : has_room c.start (points_of d.grid) (length c.before.values) (length c.before.presence) ≡ true)
       (all : is_decodable file d ≡ true) where
     abbrev points : ℕ
@@ -140,34 +126,34 @@ module _ (file : List ℕ) (c : Call) where
         (λ one j l. in_range_one (integer_of file d) d.representation.n {j = j} all (omega (arith, rank_among file d (c.k, said) i h one)))
 
   -- A call that answers with a count has decoded the field.
-  pub decoded : (n : ℕ) → answer_to file c ≡ Decoded.Points n → (d : Description) × Decodes file c (left_behind file c) d × (points_of d.grid ≡ n)
+  pub decoded : (n : ℕ) → answer_to file c ≡ Ok n → (d : Description) × Decodes file c (left_behind file c) d × (points_of d.grid ≡ n)
   decoded n = by (judge file c.k (Asks.Values c.start (length c.before.values) (length c.before.presence))) refl
     where
-      by : (a : Described) → judge file c.k (Asks.Values c.start (length c.before.values) (length c.before.presence)) ≡ a → answer_of (outcome_by file a) ≡ Decoded.Points n → (d : Description) × Decodes file c (left_behind file c) d × (points_of d.grid ≡ n)
-      by (Described.As d) said e =
+      by : (a : Result Description Refusal) → judge file c.k (Asks.Values c.start (length c.before.values) (length c.before.presence)) ≡ a → answer_of (outcome_by file a) ≡ Ok n → (d : Description) × Decodes file c (left_behind file c) d × (points_of d.grid ≡ n)
+      by (Ok d) said e =
           let known = judged_values file c.k c.start (length c.before.values) (length c.before.presence) said in
-          (d, decodes_met d known.0 known.1 known.2, one_count e)
-      by (Described.Refused r) said e = apart cc
+          (d, decodes_met d known.0 known.1 known.2, one_answer e)
+      by (Err r) said e = apart cc
 
-  pub agrees : (n i : ℕ) → answer_to file c ≡ Decoded.Points n → i < n → Agrees (point file c.k i) (value_in (left_behind file c) (c.start + i)) (mark_in (left_behind file c) (c.start + i))
+  pub agrees : (n i : ℕ) → answer_to file c ≡ Ok n → i < n → Agrees (point file c.k i) (value_in (left_behind file c) (c.start + i)) (mark_in (left_behind file c) (c.start + i))
   agrees n i = by (judge file c.k (Asks.Values c.start (length c.before.values) (length c.before.presence))) refl
     where
-      by : (a : Described) → judge file c.k (Asks.Values c.start (length c.before.values) (length c.before.presence)) ≡ a → answer_of (outcome_by file a) ≡ Decoded.Points n → i < n →
+      by : (a : Result Description Refusal) → judge file c.k (Asks.Values c.start (length c.before.values) (length c.before.presence)) ≡ a → answer_of (outcome_by file a) ≡ Ok n → i < n →
           Agrees (point file c.k i) (value_in (left_behind file c) (c.start + i)) (mark_in (left_behind file c) (c.start + i))
-      by (Described.As d) said e h =
+      by (Ok d) said e h =
           let known = judged_values file c.k c.start (length c.before.values) (length c.before.presence) said in
-          agreed_met d known.0 known.1 known.2 i (omega (arith, one_count e, h))
-      by (Described.Refused r) said e h = apart cc
+          agreed_met d known.0 known.1 known.2 i (omega (arith, one_answer e, h))
+      by (Err r) said e h = apart cc
 
   -- A call that is refused with 16 is about a field that is described, and the place is that of its section 7.
-  pub besides : (place : ℕ) → answer_to file c ≡ Decoded.Refused (refusal Why.ValueOutOfRange place) →
-      (d : Description) × (describe file c.k ≡ Described.As d) × (place ≡ d.starts.seven.0) × ((n : ℕ) → n < points_of d.grid → Alone file d n (point file c.k n))
+  pub besides : (place : ℕ) → answer_to file c ≡ Err (refusal Why.ValueOutOfRange place) →
+      (d : Description) × (describe file c.k ≡ Ok d) × (place ≡ d.starts.seven.0) × ((n : ℕ) → n < points_of d.grid → Alone file d n (point file c.k n))
   besides place = by (describe file c.k) refl
     where
-      by : (a : Described) → describe file c.k ≡ a → answer_of (outcome_by file (asked_of file (Asks.Values c.start (length c.before.values) (length c.before.presence)) a)) ≡ Decoded.Refused (refusal Why.ValueOutOfRange place) →
-          (d : Description) × (describe file c.k ≡ Described.As d) × (place ≡ d.starts.seven.0) × ((n : ℕ) → n < points_of d.grid → Alone file d n (point file c.k n))
-      by (Described.Refused r) said e = let same : r ≡ refusal Why.ValueOutOfRange place = cc in absurd (describe_not_outside file c.k place (said ∙ ap Described.Refused same))
-      by (Described.As d) said e =
+      by : (a : Result Description Refusal) → describe file c.k ≡ a → answer_of (outcome_by file (asked_of file (Asks.Values c.start (length c.before.values) (length c.before.presence)) a)) ≡ Err (refusal Why.ValueOutOfRange place) →
+          (d : Description) × (describe file c.k ≡ Ok d) × (place ≡ d.starts.seven.0) × ((n : ℕ) → n < points_of d.grid → Alone file d n (point file c.k n))
+      by (Err r) said e = let same : r ≡ refusal Why.ValueOutOfRange place = cc in absurd (describe_not_outside file c.k place (said ∙ ap Err same))
+      by (Ok d) said e =
           split (has_room c.start (points_of d.grid) (length c.before.values) (length c.before.presence))
           (λ room.
           split (is_decodable file d)
@@ -180,24 +166,24 @@ module _ (file : List ℕ) (k n : ℕ) (p : Position) where
   abbrev Lies : Type 0
   Lies = (g : DegreeGrid) × HasPoint file k n (Grid.Degrees g) × LiesAt g n p
 
-  placed_lies : place file k n ≡ Placed.At p → Lies
+  placed_lies : place file k n ≡ Ok p → Lies
   placed_lies = by (on_degrees file k n place_length) refl
     where
-      by : (o : OnDegrees) → on_degrees file k n place_length ≡ o → placed_by n o ≡ Placed.At p → Lies
-      by (OnDegrees.Grid g) said e =
+      by : (o : Result DegreeGrid Refusal) → on_degrees file k n place_length ≡ o → placed_by n o ≡ Ok p → Lies
+      by (Ok g) said e =
           let known = judged_degrees file k n place_length said in
-          (g, record { d = known.d; describes = known.describes; grid = known.kind; below = known.below }, subst (LiesAt g n) (one_position e) (position_lies g n))
-      by (OnDegrees.Refused r) said e = apart cc
+          (g, record { d = known.d; describes = known.describes; grid = known.kind; below = known.below }, subst (LiesAt g n) (one_answer e) (position_lies g n))
+      by (Err r) said e = apart cc
 
-  lies_placed : Lies → place file k n ≡ Placed.At p
+  lies_placed : Lies → place file k n ≡ Ok p
   lies_placed h =
       let g = h.0 in
       let known : Placeable file k n place_length (Grid.Degrees g) = record { d = h.1.d; describes = h.1.describes; kind = h.1.grid; below = h.1.below; fits = omega arith } in
       let passed = degrees_passes file k n place_length known in
       let measured = taken_measured g passed.0 passed.1 in
-      ap (placed_by n) (degrees_judged file k n place_length known) ∙ ap Placed.At (lies_once g n measured.columns measured.rows (position_lies g n) h.2)
+      ap (placed_by n) (degrees_judged file k n place_length known) ∙ ap Ok (lies_once g n measured.columns measured.rows (position_lies g n) h.2)
 
-expected : (file : List ℕ) (k : ℕ) (d : Description) (g : DegreeGrid) → describe file k ≡ Described.As d → d.grid ≡ Grid.Degrees g → AsExpected g
+expected : (file : List ℕ) (k : ℕ) (d : Description) (g : DegreeGrid) → describe file k ≡ Ok d → d.grid ≡ Grid.Degrees g → AsExpected g
 expected file k d g said kind =
     let grid = described_grid file k said in
     lie_as_expected g _ (subst (Passes file grid.0) kind grid.1).0
@@ -207,19 +193,19 @@ module _ (file : List ℕ) (k n : ℕ) (p : SheetPlace) where
   abbrev Rolled : Type 0
   Rolled = (g : LambertGrid) × HasPoint file k n (Grid.Lambert g) × (p ≡ sheet_of g n)
 
-  sheet_rolled : sheet file k n ≡ OnSheet.At p → Rolled
+  sheet_rolled : sheet file k n ≡ Ok p → Rolled
   sheet_rolled = by (on_lambert file k n place_length) refl
     where
-      by : (o : OnLambert) → on_lambert file k n place_length ≡ o → sheet_by n o ≡ OnSheet.At p → Rolled
-      by (OnLambert.Grid g) said e =
+      by : (o : Result LambertGrid Refusal) → on_lambert file k n place_length ≡ o → sheet_by n o ≡ Ok p → Rolled
+      by (Ok g) said e =
           let known = judged_lambert file k n place_length said in
-          (g, record { d = known.d; describes = known.describes; grid = known.kind; below = known.below }, sym (one_place e))
-      by (OnLambert.Refused r) said e = apart cc
+          (g, record { d = known.d; describes = known.describes; grid = known.kind; below = known.below }, sym (one_answer e))
+      by (Err r) said e = apart cc
 
-  rolled_sheet : Rolled → sheet file k n ≡ OnSheet.At p
+  rolled_sheet : Rolled → sheet file k n ≡ Ok p
   rolled_sheet h =
       let known : Placeable file k n place_length (Grid.Lambert h.0) = record { d = h.1.d; describes = h.1.describes; kind = h.1.grid; below = h.1.below; fits = omega arith } in
-      ap (sheet_by n) (lambert_judged file k n place_length known) ∙ ap OnSheet.At (sym h.2)
+      ap (sheet_by n) (lambert_judged file k n place_length known) ∙ ap Ok (sym h.2)
 
 pub demand_2 : (file : List ℕ) → Demand2 file
 demand_2 file =

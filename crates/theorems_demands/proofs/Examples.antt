@@ -28,12 +28,12 @@ use Rattle.question_picture.specs.Picture.{largest_present, pictured}
 use Rattle.question.specs.Describe.{described_at}
 use Rattle.refusals.specs.declared.Why.TheVariants as Why
 use Rattle.refusals.specs.Refusals.{refusal}
-use Rattle.question_picture.specs.declared.Pictured.TheVariants as Pictured
 use Rattle.theorems_demands.specs.Sample.{strayed_field}
 use Rattle.theorems_demands.specs.Examples.{two_by_three, Examples}
+use Rattle.std.specs.Prelude.{Err}
 
 -- What is answered of the picture of the field that strays.
-strayed : (pictured strayed_field 0 14 ≡ Pictured.Refused (refusal Why.NoRoom 0)) × (pictured strayed_field 0 15 ≡ Pictured.Refused (refusal Why.ValueOutOfRange 199))
+strayed : (pictured strayed_field 0 14 ≡ Err (refusal Why.NoRoom 0)) × (pictured strayed_field 0 15 ≡ Err (refusal Why.ValueOutOfRange 199))
 unfolding strayed_field number_at run run_for section_at starts_after bitmap_after header_at message identification_at grid_at product_definition_at representation_at presence_at ones_before present_before data_at values_before bits_before are_sound group_among stored_at integer are_in_range described_at bit_at bits_at is_leap month_length tomorrow days_after row spelt largest_present of_bits
 strayed = (refl, refl)
 

@@ -17,8 +17,7 @@ use Rattle.calendar.specs.Calendar.{is_leap, month_length, tomorrow, days_after}
 use Rattle.doubles.specs.Doubles.{sum_of, scaled_by}
 use Rattle.laws_machine.specs.Machine.{run, run_for}
 use Rattle.tiling_sections.specs.Walk.{section_at, starts_after, bitmap_after}
-use Rattle.tiling.specs.declared.Checked.TheVariants as Checked
-use Rattle.tiling.specs.Tiling.{header_at, message, check}
+use Rattle.tiling.specs.Tiling.{header_at, message, check, both_counts}
 use Rattle.section_1.specs.Identification.{identification_at}
 use Rattle.section_3.specs.Section3.{grid_at}
 use Rattle.section_4.specs.Product.{product_definition_at}
@@ -28,15 +27,15 @@ use Rattle.section_7.specs.Packing.{data_at}
 use Rattle.values_integers.specs.Integers.{are_in_range}
 use Rattle.question.specs.Describe.{described_at}
 use Rattle.question_decode.specs.Decoding.{outcome, gives}
-use Rattle.question_decode.specs.declared.Decoded.TheVariants as Decoded
 use Rattle.theorems_demands.specs.Impostors.{Left, Decoder, MeetsDecode, NoImpostor}
 use Rattle.theorems_demands.specs.Sample.{two_fields, one_field}
+use Rattle.std.specs.Prelude.{Ok, Err}
 
-two_counted : check two_fields ≡ Checked.Counts 1 2
+two_counted : check two_fields ≡ Ok (both_counts 1 2)
 unfolding two_fields number_at run run_for section_at starts_after bitmap_after header_at message
 two_counted = refl
 
-one_counted : check one_field ≡ Checked.Counts 1 1
+one_counted : check one_field ≡ Ok (both_counts 1 1)
 unfolding one_field number_at run run_for section_at starts_after bitmap_after header_at message
 one_counted = refl
 
@@ -78,19 +77,19 @@ abbrev unmarked : List ℕ
 unmarked = 0 ∷ 0 ∷ 0 ∷ 0 ∷ []
 
 module _ (d : Decoder) (meets : MeetsDecode d) where
-  first_left : d two_fields 0 0 zeros unmarked ≡ record { answer = Decoded.Points 4; runs = record { values = first_field; presence = 1 ∷ 0 ∷ 1 ∷ 0 ∷ [] } }
+  first_left : d two_fields 0 0 zeros unmarked ≡ record { answer = Ok 4; runs = record { values = first_field; presence = 1 ∷ 0 ∷ 1 ∷ 0 ∷ [] } }
   first_left = meets two_fields 0 0 zeros unmarked ∙ rw first_decoded
 
-  second_left : d two_fields 1 0 zeros unmarked ≡ record { answer = Decoded.Points 4; runs = record { values = second_field; presence = 1 ∷ 0 ∷ 1 ∷ 0 ∷ [] } }
+  second_left : d two_fields 1 0 zeros unmarked ≡ record { answer = Ok 4; runs = record { values = second_field; presence = 1 ∷ 0 ∷ 1 ∷ 0 ∷ [] } }
   second_left = meets two_fields 1 0 zeros unmarked ∙ rw second_decoded
 
-  first_answer : (d two_fields 0 0 zeros unmarked).answer ≡ Decoded.Points 4
+  first_answer : (d two_fields 0 0 zeros unmarked).answer ≡ Ok 4
   first_answer = ap (λ (l : Left). l.answer) first_left
 
   first_values : (d two_fields 0 0 zeros unmarked).runs.values ≡ first_field
   first_values = ap (λ (l : Left). l.runs.values) first_left
 
-  second_answer : (d two_fields 1 0 zeros unmarked).answer ≡ Decoded.Points 4
+  second_answer : (d two_fields 1 0 zeros unmarked).answer ≡ Ok 4
   second_answer = ap (λ (l : Left). l.answer) second_left
 
   second_values : (d two_fields 1 0 zeros unmarked).runs.values ≡ second_field
@@ -107,5 +106,5 @@ no_impostor =
       repeats_field_0 = λ d meets same. fields_differ (sym (first_values d meets) ∙ sym (same two_fields 1 0 4 zeros unmarked (second_answer d meets)) ∙ second_values d meets);
     }
   where
-    no_counts : {m n : ℕ} {r : Refusal} → Checked.Counts m n ≡ Checked.Refused r → ⊥
+    no_counts : {m n : ℕ} {r : Refusal} → Ok (both_counts m n) ≡ Err r → ⊥
     no_counts e = apart cc

@@ -9,15 +9,13 @@ use lib.Dec.{eqb, ltb}
 use lib.IntN.{ℤ, pos}
 use lib.ListN.{length, get_or}
 use lib.Seq.{get_or-append-add}
+use Rattle.std.specs.declared.cmp.Ordering.{Ordering}
 use Rattle.octets.specs.Places.{at, place_of}
 use Rattle.octets.proofs.Cases.{apart, split, both}
 use Rattle.calendar.specs.declared.Time.{Time}
-use Rattle.calendar.specs.declared.Reading.{Reading}
-use Rattle.calendar.specs.declared.Order.{Order}
 use Rattle.calendar.specs.Calendar.{time_at, ordered}
 use Rattle.section.specs.Sections.{octet, held, length_at}
 use Rattle.tiling_sections.specs.declared.Located.{Located}
-use Rattle.tiling_sections.specs.declared.Bitmap.{Bitmap}
 use Rattle.section_3_geometry.specs.declared.LambertGrid.{LambertGrid}
 use Rattle.section_3_geometry.specs.declared.Grid as declaredGrid
 use Rattle.section_3_geometry.specs.declared.Grid.TheVariants as Grid
@@ -25,31 +23,26 @@ use Rattle.section_3_geometry.specs.Geometry.{template_of}
 use Rattle.section_3.proofs.Laws.{grid_template}
 use Rattle.section_4.specs.declared.Kind.{Kind}
 use Rattle.section_4.specs.declared.Level as declaredLevel
-use Rattle.section_4.specs.declared.LevelReading.TheVariants as LevelReading
-use Rattle.section_4.specs.declared.Moment.{Moment}
 use Rattle.section_4.specs.declared.Product as declaredProduct
 use Rattle.section_4.specs.declared.Product.TheVariants as Product
-use Rattle.section_4.specs.declared.ProductReading.{ProductReading}
 use Rattle.section_4.specs.declared.ProductDefinition.{ProductDefinition}
-use Rattle.section_4.specs.declared.Defined.TheVariants as Defined
 use Rattle.section_4.specs.Product.{product_template_at, is_template, is_product, level_at, later, agreed, ending, interval_of, product_at, product_definition_at}
 use Rattle.section_4.proofs.Laws.{defined_tells, level_read}
 use Rattle.section_5.specs.declared.Template as declaredTemplate
-use Rattle.section_5.specs.declared.Template.TheVariants as Template
-use Rattle.section_5.specs.declared.TemplateReading.{TemplateReading}
+use Rattle.section_5.specs.declared.Template.{Template}
 use Rattle.section_5.specs.declared.Representation.{Representation}
-use Rattle.section_5.specs.declared.Represented.TheVariants as Represented
 use Rattle.section_5_groups.specs.Groups.{grouping_at, is_differenced, is_grouping}
 use Rattle.section_5.specs.Representation.{is_scaled, data_template_at, representation_with, represented_by, representation_at, template_number}
 use Rattle.section_6.specs.declared.Presence as declaredPresence
 use Rattle.section_6.specs.declared.Presence.TheVariants as Presence
-use Rattle.section_6.specs.declared.Marked.{Marked}
 use Rattle.section_6.specs.Presence.{is_bitmap, own_at, earlier_at, all_of, presence_at, indicator_of}
 use Rattle.question.specs.declared.Description.{Description}
 use Rattle.question_numbers.specs.Numbers.{level_numbers, kind_number, product_numbers, lambert_numbers, shared_numbers, numbers_of}
 use Rattle.question_numbers.proofs.Laws.{shared_length}
 use Rattle.question.specs.Judged.{Judged}
 use Rattle.theorems_demands.specs.Numbers.{level_held, InNumbers}
+use Rattle.std.specs.Prelude.{Option, Some, None}
+use Rattle.octets.specs.declared.FilePlace.{FilePlace}
 
 -- What stands behind so many numbers of a row.
 get_or_behind : (front rest : List ℤ) {n : ℕ} → length front ≡ n → get_or (front ++ rest) n (pos 0) ≡ get_or rest 0 (pos 0)
@@ -62,7 +55,7 @@ either false b e left right = right e
 
 -- Section 5: the template is 0 or 3.
 module _ (file : List ℕ) (s : ℕ) where
-  template_is : (t : declaredTemplate.Template) → data_template_at file s ≡ TemplateReading.Is t → template_number t ≡ held file s 10 11
+  template_is : (t : declaredTemplate.Template) → data_template_at file s ≡ Some t → template_number t ≡ held file s 10 11
   template_is t e =
       split (eqb (length_at file s) 21 && eqb (held file s 10 11) 0)
       (λ simple.
@@ -78,40 +71,40 @@ module _ (file : List ℕ) (s : ℕ) where
       (λ loose. apart (cc (rw (other, complex, loose) at e))))
       (λ neither. apart (cc (rw (other, neither) at e))))
 
-  template_number_lem : {r : Representation} → representation_at file s ≡ Represented.By r → template_number r.template ≡ held file s 10 11
+  template_number_lem : {r : Representation} → representation_at file s ≡ Some r → template_number r.template ≡ held file s 10 11
   unfolding representation_at
   template_number_lem {r} said = by (data_template_at file s) refl said
     where
-      by : (reading : TemplateReading) → data_template_at file s ≡ reading → represented_by file s reading ≡ Represented.By r → template_number r.template ≡ held file s 10 11
-      by (TemplateReading.Is t) read e =
+      by : (reading : Option Template) → data_template_at file s ≡ reading → represented_by file s reading ≡ Some r → template_number r.template ≡ held file s 10 11
+      by (Some t) read e =
           split (is_scaled file s)
           (λ scaled.
           let same : representation_with file s t ≡ r = cc (rw scaled at e) in
           subst (λ (x : Representation). template_number x.template ≡ held file s 10 11) same (template_is t read))
           (λ not. apart (cc (rw not at e)))
-      by TemplateReading.Bad read e = apart cc
+      by None read e = apart cc
 
   -- Section 6: the indicator is 0, 254 or 255.
-  own_indicator : (points n : ℕ) {p : declaredPresence.Presence} → octet file s 6 ≡ 0 → own_at file s points n ≡ Marked.As p → indicator_of p ≡ octet file s 6
+  own_indicator : (points n : ℕ) {p : declaredPresence.Presence} → octet file s 6 ≡ 0 → own_at file s points n ≡ Some p → indicator_of p ≡ octet file s 6
   own_indicator points n {p} is e =
       split (is_bitmap file s points n)
       (λ fits. let same : Presence.Own (at s) ≡ p = cc (rw fits at e) in subst (λ (x : declaredPresence.Presence). indicator_of x ≡ octet file s 6) same (sym is))
       (λ not. apart (cc (rw not at e)))
 
-  earlier_indicator : (bitmap : Bitmap) (points n : ℕ) {p : declaredPresence.Presence} → octet file s 6 ≡ 254 → earlier_at file bitmap points n ≡ Marked.As p → indicator_of p ≡ octet file s 6
-  earlier_indicator Bitmap.Absent points n is e = apart cc
-  earlier_indicator (Bitmap.At q) points n {p} is e =
+  earlier_indicator : (bitmap : Option FilePlace) (points n : ℕ) {p : declaredPresence.Presence} → octet file s 6 ≡ 254 → earlier_at file bitmap points n ≡ Some p → indicator_of p ≡ octet file s 6
+  earlier_indicator None points n is e = apart cc
+  earlier_indicator (Some q) points n {p} is e =
       split (is_bitmap file q.0 points n)
       (λ fits. let same : Presence.Earlier q ≡ p = cc (rw fits at e) in subst (λ (x : declaredPresence.Presence). indicator_of x ≡ octet file s 6) same (sym is))
       (λ not. apart (cc (rw not at e)))
 
-  all_indicator : (points n : ℕ) {p : declaredPresence.Presence} → octet file s 6 ≡ 255 → all_of points n ≡ Marked.As p → indicator_of p ≡ octet file s 6
+  all_indicator : (points n : ℕ) {p : declaredPresence.Presence} → octet file s 6 ≡ 255 → all_of points n ≡ Some p → indicator_of p ≡ octet file s 6
   all_indicator points n {p} is e =
       split (eqb points n)
       (λ fits. let same : Presence.All ≡ p = cc (rw fits at e) in subst (λ (x : declaredPresence.Presence). indicator_of x ≡ octet file s 6) same (sym is))
       (λ not. apart (cc (rw not at e)))
 
-  indicator_number : (bitmap : Bitmap) (points n : ℕ) {p : declaredPresence.Presence} → presence_at file s bitmap points n ≡ Marked.As p → indicator_of p ≡ octet file s 6
+  indicator_number : (bitmap : Option FilePlace) (points n : ℕ) {p : declaredPresence.Presence} → presence_at file s bitmap points n ≡ Some p → indicator_of p ≡ octet file s 6
   unfolding presence_at
   indicator_number bitmap points n {p} e =
       split (ltb (length_at file s) 6) (λ i. apart (cc (rw i at e)))
@@ -127,19 +120,19 @@ module _ (file : List ℕ) (s : ℕ) where
       (λ six. apart (cc (rw (i, j, six) at e)))))
 
   -- Section 4: the level, the template and the kind.
-  level_number : (level : declaredLevel.Level) → level_at file s ≡ LevelReading.Is level → level_numbers level ≡ level_held file s
-  level_number level e = level_read file s (λ (l : declaredLevel.Level). level_numbers l ≡ level_held file s) level e (λ all. rw all) (λ some. rw some)
+  level_number : (level : Option declaredLevel.Level) → level_at file s ≡ Some level → level_numbers level ≡ level_held file s
+  level_number level e = level_read file s (λ (l : Option declaredLevel.Level). level_numbers l ≡ level_held file s) level e (λ all. rw all) (λ some. rw some)
 
   -- An interval is of the kind that it was read for.
-  same_kind : (k : Kind) (read : Reading) (moved : Moment) {p : declaredProduct.Product} → ending k read moved ≡ ProductReading.Is p → (end : Time) × (p ≡ Product.Interval end k)
-  same_kind k (Reading.At t) (Moment.At r) {p} e = by (ordered t r) e
+  same_kind : (k : Kind) (read : Option Time) (moved : Option Time) {p : declaredProduct.Product} → ending k read moved ≡ Some p → (end : Time) × (p ≡ Product.Interval end k)
+  same_kind k (Some t) (Some r) {p} e = by (ordered t r) e
     where
-      by : (o : Order) → agreed t k o ≡ ProductReading.Is p → (end : Time) × (p ≡ Product.Interval end k)
-      by Order.Same is = (t, cc)
-      by Order.Before is = apart cc
-      by Order.After is = apart cc
-  same_kind k (Reading.At t) Moment.Never e = apart cc
-  same_kind k Reading.NoTime moved e = apart cc
+      by : (o : Ordering) → agreed t k o ≡ Some p → (end : Time) × (p ≡ Product.Interval end k)
+      by Ordering.Equal is = (t, cc)
+      by Ordering.Less is = apart cc
+      by Ordering.Greater is = apart cc
+  same_kind k (Some t) None e = apart cc
+  same_kind k None moved e = apart cc
 
   -- The kind, or that there is none, and the template that goes with it.
   pub record ByOctets (p : declaredProduct.Product) : Type 0 where
@@ -147,7 +140,7 @@ module _ (file : List ℕ) (s : ℕ) where
     pub kind : (end : Time) (kind : Kind) → p ≡ Product.Interval end kind → kind_number kind ≡ octet file s 47
 
   interval_by : (valid : Time) (k : Kind) {p : declaredProduct.Product} →
-      (product_template_at file s ≡ 0 → ⊥) → kind_number k ≡ octet file s 47 → interval_of file s valid k ≡ ProductReading.Is p → ByOctets p
+      (product_template_at file s ≡ 0 → ⊥) → kind_number k ≡ octet file s 47 → interval_of file s valid k ≡ Some p → ByOctets p
   interval_by valid k {p} other is e =
       let read = same_kind k (time_at file (place_of s 35)) (later valid (held file s 50 53) (octet file s 49)) e in
       subst ByOctets (sym read.1)
@@ -160,7 +153,7 @@ module _ (file : List ℕ) (s : ℕ) where
         kind = λ end kind same. let alike : k ≡ kind = cc in subst (λ (x : Kind). kind_number x ≡ octet file s 47) alike is;
       })
 
-  product_by : (valid : Time) (p : declaredProduct.Product) → product_at file s valid ≡ ProductReading.Is p → ByOctets p
+  product_by : (valid : Time) (p : declaredProduct.Product) → product_at file s valid ≡ Some p → ByOctets p
   product_by valid p e =
       split (eqb (product_template_at file s) 0)
       (λ zero.
@@ -175,7 +168,7 @@ module _ (file : List ℕ) (s : ℕ) where
       (λ sum. apart (cc (rw (other, one, mean, sum) at e)))))
       (λ one. apart (cc (rw (other, one) at e))))
 
-  taken_is_template : (reference : Time) {d : ProductDefinition} → product_definition_at file s reference ≡ Defined.As d → is_template file s ≡ true
+  taken_is_template : (reference : Time) {d : ProductDefinition} → product_definition_at file s reference ≡ Some d → is_template file s ≡ true
   unfolding product_definition_at
   taken_is_template reference e = split (is_product file s) (λ test. (both _ _ (both _ _ (both _ _ (both _ _ test).0).0).0).0) (λ not. apart (cc (rw not at e)))
 

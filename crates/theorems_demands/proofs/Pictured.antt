@@ -15,21 +15,18 @@ use Rattle.greys.proofs.Laws.{grey_never_falls, grey_of_the_largest, grey_presen
 use Rattle.section_3_geometry.specs.Geometry.{frame_of, points_of}
 use Rattle.values_integers.proofs.Range.{in_range_one}
 use Rattle.question.specs.declared.Description.{Description}
-use Rattle.question.specs.declared.Described.{Described}
 use Rattle.question.specs.Describe.{describe}
 use Rattle.question.specs.Judge.{Known, integer_of, is_decodable}
 use Rattle.question_decode.specs.Decoding.{present_of, rank_of}
 use Rattle.question_decode.proofs.Laws.{one_or_zero, rank_among}
-use Rattle.question_picture.specs.declared.Pictured.TheVariants as Pictured
 use Rattle.question_picture.specs.Picture.{largest_present, header, picture_length, point_integer, drawing_by, pictured_by, pictured, run_left}
 use Rattle.question_picture.proofs.Laws.{largest_bounds, largest_reached, start_lines, start_points, start_behind}
 use Rattle.theorems_demands.specs.Pictured.{HasX, IsLargest, Grey, octet_in, Draws, AsSeen}
 use Rattle.theorems_demands.proofs.Demand1.{described_at_lem}
 use Rattle.theorems_demands.proofs.Alone.{own_size}
-
--- An answer is one alone.
-one_length : {a b : ℕ} → Pictured.Octets a ≡ Pictured.Octets b → a ≡ b
-one_length e = cc
+use Rattle.std.specs.Prelude.{Result, Ok, Err}
+use Rattle.refusals.specs.declared.Refusal.{Refusal}
+use Rattle.question.proofs.Laws.{one_answer}
 
 module _ (file : List ℕ) (d : Description) (known : Known file d) (all : is_decodable file d ≡ true) where
   abbrev points : ℕ
@@ -66,7 +63,7 @@ module _ (file : List ℕ) (d : Description) (known : Known file d) (all : is_de
 
 -- The run that a call leaves begins with the picture.
 module _ (file : List ℕ) (k : ℕ) (run : List ℕ) where
-  draws_met : (d : Description) → describe file k ≡ Described.As d → ltb (length run) (picture_length (frame_of d.grid)) ≡ false → is_decodable file d ≡ true → Draws file k run (run_left file k run) d
+  draws_met : (d : Description) → describe file k ≡ Ok d → ltb (length run) (picture_length (frame_of d.grid)) ≡ false → is_decodable file d ≡ true → Draws file k run (run_left file k run) d
   draws_met d said enough all =
       let lines = header (frame_of d.grid) in
       let n = points_of d.grid in
@@ -83,18 +80,18 @@ module _ (file : List ℕ) (k : ℕ) (run : List ℕ) where
       }
 
   -- A call that answers with a length has drawn the field.
-  pub drawn : (n : ℕ) → pictured file k (length run) ≡ Pictured.Octets n → (d : Description) × Draws file k run (run_left file k run) d × (picture_length (frame_of d.grid) ≡ n)
+  pub drawn : (n : ℕ) → pictured file k (length run) ≡ Ok n → (d : Description) × Draws file k run (run_left file k run) d × (picture_length (frame_of d.grid) ≡ n)
   drawn n = by (describe file k) refl
     where
-      by : (a : Described) → describe file k ≡ a → pictured_by (drawing_by file (length run) a) ≡ Pictured.Octets n → (d : Description) × Draws file k run (run_left file k run) d × (picture_length (frame_of d.grid) ≡ n)
-      by (Described.As d) said e =
+      by : (a : Result Description Refusal) → describe file k ≡ a → pictured_by (drawing_by file (length run) a) ≡ Ok n → (d : Description) × Draws file k run (run_left file k run) d × (picture_length (frame_of d.grid) ≡ n)
+      by (Ok d) said e =
           split (ltb (length run) (picture_length (frame_of d.grid)))
           (λ none. let other = rw none at e in apart cc)
           (λ enough.
           split (is_decodable file d)
-          (λ all. (d, draws_met d said enough all, one_length (rw (enough, all) at e)))
+          (λ all. (d, draws_met d said enough all, one_answer (rw (enough, all) at e)))
           (λ fails. let other = rw (enough, fails) at e in apart cc))
-      by (Described.Refused r) said e = apart cc
+      by (Err r) said e = apart cc
 
 -- What is seen in it.
 module _ {file : List ℕ} {k : ℕ} {run left : List ℕ} {d : Description} (drawn : Draws file k run left d) where

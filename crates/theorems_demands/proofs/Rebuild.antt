@@ -16,22 +16,20 @@ use Rattle.refusals.specs.declared.Why as declaredWhy
 use Rattle.refusals.specs.declared.Why.TheVariants as Why
 use Rattle.refusals.specs.Refusals.{refusal, number_of}
 use Rattle.refusals.proofs.Laws.{same_number}
-use Rattle.doubles.specs.declared.Rebuilt.TheVariants as Rebuilt
 use Rattle.doubles.specs.Doubles.{value_of, is_in_range, is_rebuildable, not_rebuildable, rebuild_one}
 use Rattle.theorems_bound.specs.Bound.{exact_s, Meets}
 use Rattle.theorems_bound.proofs.Meets.{rebuilt_meets, answered_in_limits}
 use Rattle.theorems_demands.specs.Questions.{refused, refused_by}
 use Rattle.theorems_demands.specs.Rebuild.{Within, Rebuilds}
 use Rattle.theorems_demands.proofs.Demand3.{one_integer}
+use Rattle.std.specs.Prelude.{Result, Ok, Err}
+use Rattle.question.proofs.Laws.{one_answer}
 
 -- A double is no refusal, and each answer is one alone.
-clash_rebuilt : {A : Type 0} {v : Float} {f : Refusal} → Rebuilt.Double v ≡ Rebuilt.Refused f → A
+clash_rebuilt : {A : Type 0} {v : Float} {f : Refusal} → ◌≡◌ {A = Result Float Refusal} (Ok v) (Err f) → A
 clash_rebuilt e = apart cc
 
-one_double : {v w : Float} → Rebuilt.Double v ≡ Rebuilt.Double w → v ≡ w
-one_double e = cc
-
-one_refused : {f g : Refusal} → Rebuilt.Refused f ≡ Rebuilt.Refused g → f ≡ g
+one_refused : {f g : Refusal} → ◌≡◌ {A = Result Float Refusal} (Err f) (Err g) → f ≡ g
 one_refused e = cc
 
 -- A refusal that is told as 19 at place 0 is the one of this question.
@@ -70,22 +68,22 @@ module _ (r : ℕ) (e d x : Signed) where
   pub rebuild_meets : Rebuilds r e d x
   rebuild_meets =
       record {
-        answers = λ v. (answered v, λ h. rw (passed h.0 h.1) (ap Rebuilt.Double (ap (value_of r e d) (sized x.negative x.size h.0 h.1.0) ∙ sym h.2)));
+        answers = λ v. (answered v, λ h. rw (passed h.0 h.1) (ap Ok (ap (value_of r e d) (sized x.negative x.size h.0 h.1.0) ∙ sym h.2)));
         meets = λ v n given is. let h = answered v given in let same : h.0 ≡ n = one_integer (sym h.1.0 ∙ is) in
             subst (λ (m : ℕ). Meets d.negative d.size (exact_s r e m) v) same (subst (Meets _ _ _) (sym h.2) (rebuilt_meets r e d h.0 h.1.1));
-        refuses = λ f. (refuses_by f, λ h. by_test h.1 ∙ ap Rebuilt.Refused (sym (is_nineteen f h.0)));
+        refuses = λ f. (refuses_by f, λ h. by_test h.1 ∙ ap Err (sym (is_nineteen f h.0)));
       }
     where
-      answered : (v : Float) → rebuild_one r e d x ≡ Rebuilt.Double v → (n : ℕ) × Within r e d x n × (v ≡ value_of r e d n)
+      answered : (v : Float) → rebuild_one r e d x ≡ Ok v → (n : ℕ) × Within r e d x n × (v ≡ value_of r e d n)
       answered v given =
           split (is_rebuildable r e d x)
-          (λ holds. (x.size, within_of holds, sym (one_double (rw holds at given))))
+          (λ holds. (x.size, within_of holds, sym (one_answer (rw holds at given))))
           (λ fails. clash_rebuilt (sym (rw fails at given)))
 
-      by_test : ((n : ℕ) → Within r e d x n → ⊥) → rebuild_one r e d x ≡ Rebuilt.Refused not_rebuildable
+      by_test : ((n : ℕ) → Within r e d x n → ⊥) → rebuild_one r e d x ≡ Err not_rebuildable
       by_test none = split (is_rebuildable r e d x) (λ holds. absurd (none x.size (within_of holds))) (λ fails. rw fails)
 
-      refuses_by : (f : Refusal) → rebuild_one r e d x ≡ Rebuilt.Refused f → (refused_by f ≡ refused 19 0) × ((n : ℕ) → Within r e d x n → ⊥)
+      refuses_by : (f : Refusal) → rebuild_one r e d x ≡ Err f → (refused_by f ≡ refused 19 0) × ((n : ℕ) → Within r e d x n → ⊥)
       refuses_by f given =
           split (is_rebuildable r e d x)
           (λ holds. clash_rebuilt (rw holds at given))

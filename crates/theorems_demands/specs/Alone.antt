@@ -1,5 +1,5 @@
 -- RULES, "One point": what is answered of one point of a field alone, and that it is what decode writes for it.
-use Rattle.std.specs.Prelude.{ℕ, ◌≤◌, ◌≡◌, true, false, List, ◌↔◌, pos, Float}
+use Rattle.std.specs.Prelude.{ℕ, ◌≤◌, ◌≡◌, true, false, List, ◌↔◌, pos, Float, Option, Some, None, Result, Ok, Err}
 use Rattle.std.specs.Float.{fin}
 use Rattle.refusals.specs.declared.Why.TheVariants as Why
 use Rattle.refusals.specs.Refusals.{refusal}
@@ -7,7 +7,7 @@ use Rattle.doubles.specs.Doubles.{is_in_range, value_of}
 use Rattle.question.specs.declared.Description.{Description}
 use Rattle.question.specs.Judge.{integer_of}
 use Rattle.question_decode.specs.Decoding.{present_of, rank_of}
-use Rattle.question_point.specs.declared.Pointed.{Pointed}
+use Rattle.refusals.specs.declared.Refusal.{Refusal}
 
 -- A point that is present: as many points are present before it as integers are packed before its own, which is the standard's X, in its range; and the
 -- double that is told is that of R, E, D and X.
@@ -23,13 +23,13 @@ UpToOwn file d n = (j : ℕ) → j ≤ rank_of file d n → is_in_range (integer
 
 -- What is answered of point n of the field that d describes, whatever its integers behind the point's own are. A missing point is missing. A point that is present has
 -- its value exactly where X is in its range up to that point, and is refused with 16, at section 7, exactly where it is not.
-pub record Alone (file : List ℕ) (d : Description) (n : ℕ) (answer : Pointed) : Type 0 where
-  pub missing : (answer ≡ Pointed.Missing) ↔ (present_of file d n ≡ 0)
-  pub stands : present_of file d n ≡ 1 → ((v : Float) × (answer ≡ Pointed.Value v)) ↔ UpToOwn file d n
-  pub refused : present_of file d n ≡ 1 → (answer ≡ Pointed.Refused (refusal Why.ValueOutOfRange d.starts.seven.0)) ↔ (UpToOwn file d n → ⊥)
-  pub value : (v : Float) → answer ≡ Pointed.Value v → Present file d n v
+pub record Alone (file : List ℕ) (d : Description) (n : ℕ) (answer : Result (Option Float) Refusal) : Type 0 where
+  pub missing : (answer ≡ Ok None) ↔ (present_of file d n ≡ 0)
+  pub stands : present_of file d n ≡ 1 → ((v : Float) × (answer ≡ Ok (Some v))) ↔ UpToOwn file d n
+  pub refused : present_of file d n ≡ 1 → (answer ≡ Err (refusal Why.ValueOutOfRange d.starts.seven.0)) ↔ (UpToOwn file d n → ⊥)
+  pub value : (v : Float) → answer ≡ Ok (Some v) → Present file d n v
 
 -- It agrees with the two elements that decode writes for the point, mark and double alike.
-pub data Agrees : Pointed → (written : Float) (mark : ℕ) → Type 0 where
-  both_present : {v : Float} → Agrees (Pointed.Value v) v 1
-  both_missing : Agrees Pointed.Missing (fin false 0 (pos 0)) 0
+pub data Agrees : Result (Option Float) Refusal → (written : Float) (mark : ℕ) → Type 0 where
+  both_present : {v : Float} → Agrees (Ok (Some v)) v 1
+  both_missing : Agrees (Ok None) (fin false 0 (pos 0)) 0

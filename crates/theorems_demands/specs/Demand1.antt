@@ -1,6 +1,6 @@
 -- Demand 1: a question is answered in full, or refused with one number and place: the first in the rules' order whose condition holds. A refused
 -- call alters nothing that was lent. (That every call ends, and stays inside what it was lent, is proved of each function by the checker itself.)
-use Rattle.std.specs.Prelude.{ℕ, ◌+◌, ◌≤◌, ◌<◌, ◌≡◌, false, List, ◌↔◌, length, get_or, Float}
+use Rattle.std.specs.Prelude.{ℕ, ◌+◌, ◌≤◌, ◌<◌, ◌≡◌, false, List, ◌↔◌, length, get_or, Float, Some, None}
 use Rattle.refusals.specs.declared.Why as declaredWhy
 use Rattle.refusals.specs.declared.Why.TheVariants as Why
 use Rattle.refusals.specs.Refusals.{refusal, rank}
@@ -10,19 +10,13 @@ use Rattle.tiling.specs.Tiling.{largest}
 use Rattle.theorems_grammar.specs.Grammar.{Accepted}
 use Rattle.theorems_grammar.specs.Refusals.{Before, Faulty}
 use Rattle.section_1.specs.declared.Identification.{Identification}
-use Rattle.section_1.specs.declared.Identified.TheVariants as Identified
 use Rattle.section_3_geometry.specs.declared.DegreeGrid.{DegreeGrid}
 use Rattle.section_3_geometry.specs.declared.LambertGrid.{LambertGrid}
 use Rattle.section_3_geometry.specs.declared.Grid.{Grid}
 use Rattle.section_3_geometry.specs.Geometry.{frame_of, points_of, template_of}
-use Rattle.section_3.specs.declared.Gridded.TheVariants as Gridded
-use Rattle.section_4.specs.declared.Defined.TheVariants as Defined
 use Rattle.section_5.specs.declared.Representation.{Representation}
-use Rattle.section_5.specs.declared.Represented.TheVariants as Represented
 use Rattle.section_6.specs.declared.Presence.{Presence}
-use Rattle.section_6.specs.declared.Marked.TheVariants as Marked
 use Rattle.section_6.specs.Presence.{present_at, present_before}
-use Rattle.section_7.specs.declared.Packed.TheVariants as Packed
 use Rattle.doubles.specs.Doubles as Doubles
 use Rattle.values_integers.specs.Integers.{integer_at}
 use Rattle.question.specs.Judged.{identification_of, grid_of, product_of, representation_of, presence_of, data_of}
@@ -111,38 +105,38 @@ pub data Applies (file : List ℕ) (q : Question) : (number place : ℕ) → Typ
   -- The file is accepted, and has no field k.
   no_such_field : {k m : ℕ} {fs : List Located} → Names q k → Accepted file m fs → length fs ≤ k → Applies file q 8 0
   -- Section 1 or 3 in force for the field is not taken.
-  section_1 : {l : Located} → About file q l → identification_of file l ≡ Identified.NotTaken → Applies file q 9 l.starts.one.0
-  section_3 : {l : Located} → About file q l → grid_of file l ≡ Gridded.NotTaken → Applies file q 10 l.starts.three.0
+  section_1 : {l : Located} → About file q l → identification_of file l ≡ None → Applies file q 9 l.starts.one.0
+  section_3 : {l : Located} → About file q l → grid_of file l ≡ None → Applies file q 10 l.starts.three.0
   -- Section 4 is not taken, with the reference time of section 1.
   section_4 :
       {l : Located} {i : Identification} →
       About file q l →
-      identification_of file l ≡ Identified.As i →
-      product_of file l i.reference ≡ Defined.NotTaken →
+      identification_of file l ≡ Some i →
+      product_of file l i.reference ≡ None →
       Applies file q 11 l.starts.four.0
   -- Section 5 is not taken.
-  section_5 : {l : Located} → About file q l → representation_of file l ≡ Represented.NotTaken → Applies file q 12 l.starts.five.0
+  section_5 : {l : Located} → About file q l → representation_of file l ≡ None → Applies file q 12 l.starts.five.0
   -- Section 6 is not taken, with the points of section 3 and the N of section 5.
   section_6 :
       {l : Located} {g : Grid} {r : Representation} →
       About file q l →
-      grid_of file l ≡ Gridded.On g →
-      representation_of file l ≡ Represented.By r →
-      presence_of file l (points_of g) r.n ≡ Marked.NotTaken →
+      grid_of file l ≡ Some g →
+      representation_of file l ≡ Some r →
+      presence_of file l (points_of g) r.n ≡ None →
       Applies file q 13 l.starts.six.0
   -- The group plan or the length of section 7 is not as section 5 says.
   section_7 :
       {l : Located} {r : Representation} →
       About file q l →
-      representation_of file l ≡ Represented.By r →
-      data_of file l r ≡ Packed.NotTaken →
+      representation_of file l ≡ Some r →
+      data_of file l r ≡ None →
       Applies file q 14 l.starts.seven.0
   -- The points do not fit into both runs from the start index on.
   no_room :
       {l : Located} {g : Grid} {start values presence : ℕ} →
       About file q l →
       Lends q start values presence →
-      grid_of file l ≡ Gridded.On g →
+      grid_of file l ≡ Some g →
       ((start + points_of g ≤ values) × (start + points_of g ≤ presence) → ⊥) →
       Applies file q 15 0
   -- The run is too short for the picture: its lines, and a grey for each point.
@@ -150,14 +144,14 @@ pub data Applies (file : List ℕ) (q : Question) : (number place : ℕ) → Typ
       {l : Located} {g : Grid} {room : ℕ} →
       About file q l →
       LendsOctets q room →
-      grid_of file l ≡ Gridded.On g →
+      grid_of file l ≡ Some g →
       room < length (header (frame_of g)) + points_of g →
       Applies file q 15 0
   -- The run is too short for the numbers of a description, or for those that tell of a point.
   no_room_for_numbers :
       {l : Located} {g : Grid} {needed room : ℕ} →
       About file q l →
-      grid_of file l ≡ Gridded.On g →
+      grid_of file l ≡ Some g →
       LendsNumbers q g needed room →
       room < needed →
       Applies file q 15 0
@@ -167,7 +161,7 @@ pub data Applies (file : List ℕ) (q : Question) : (number place : ℕ) → Typ
       {l : Located} {r : Representation} {start values presence m : ℕ} →
       About file q l →
       Lends q start values presence →
-      representation_of file l ≡ Represented.By r →
+      representation_of file l ≡ Some r →
       m < r.n →
       Doubles.is_in_range (integer_at file l.starts.seven.0 r m) ≡ false →
       Applies file q 16 l.starts.seven.0
@@ -176,7 +170,7 @@ pub data Applies (file : List ℕ) (q : Question) : (number place : ℕ) → Typ
       {l : Located} {r : Representation} {room m : ℕ} →
       About file q l →
       LendsOctets q room →
-      representation_of file l ≡ Represented.By r →
+      representation_of file l ≡ Some r →
       m < r.n →
       Doubles.is_in_range (integer_at file l.starts.seven.0 r m) ≡ false →
       Applies file q 16 l.starts.seven.0
@@ -185,9 +179,9 @@ pub data Applies (file : List ℕ) (q : Question) : (number place : ℕ) → Typ
       {l : Located} {g : Grid} {r : Representation} {p : Presence} {n j : ℕ} →
       About file q l →
       AsksValue q n →
-      grid_of file l ≡ Gridded.On g →
-      representation_of file l ≡ Represented.By r →
-      presence_of file l (points_of g) r.n ≡ Marked.As p →
+      grid_of file l ≡ Some g →
+      representation_of file l ≡ Some r →
+      presence_of file l (points_of g) r.n ≡ Some p →
       present_at file p (points_of g) n ≡ 1 →
       j ≤ present_before file p (points_of g) n →
       Doubles.is_in_range (integer_at file l.starts.seven.0 r j) ≡ false →
@@ -197,7 +191,7 @@ pub data Applies (file : List ℕ) (q : Question) : (number place : ℕ) → Typ
       {l : Located} {g : Grid} {n needed room : ℕ} →
       About file q l →
       AsksPoint q n needed room →
-      grid_of file l ≡ Gridded.On g →
+      grid_of file l ≡ Some g →
       points_of g ≤ n →
       Applies file q 17 0
   -- The grid is of the other kind: the question is about grids of another template.
@@ -205,7 +199,7 @@ pub data Applies (file : List ℕ) (q : Question) : (number place : ℕ) → Typ
       {l : Located} {g : Grid} {template : ℕ} →
       About file q l →
       AsksOf q template →
-      grid_of file l ≡ Gridded.On g →
+      grid_of file l ≡ Some g →
       (template_of g ≡ template → ⊥) →
       Applies file q 20 0
 

@@ -1,15 +1,12 @@
 -- Demand 3: each double that decode writes, or point tells, for a point that is present lies within one part in 2^51 of the exact fraction (R + X 2^E) / 10^D. The statement
 -- compares whole numbers: see Meets, Near, exactS and writtenV in theorems_bound/specs/Bound.antt.
-use Rattle.std.specs.Prelude.{ℕ, ◌+◌, ◌<◌, ◌≡◌, List, pos, Float}
+use Rattle.std.specs.Prelude.{ℕ, ◌+◌, ◌<◌, ◌≡◌, List, pos, Float, Some, Ok}
 use Rattle.section_3_geometry.specs.Geometry.{points_of}
 use Rattle.theorems_bound.specs.Bound.{exact_s, Meets, InLimits}
 use Rattle.question.specs.declared.Description.{Description}
-use Rattle.question.specs.declared.Described.TheVariants as Described
 use Rattle.question.specs.Describe.{describe}
 use Rattle.question.specs.Judge.{integer_of}
-use Rattle.question_decode.specs.declared.Decoded.TheVariants as Decoded
 use Rattle.question_decode.specs.Decoding.{rank_of}
-use Rattle.question_point.specs.declared.Pointed.TheVariants as Pointed
 use Rattle.question_point.specs.Point.{point}
 use Rattle.theorems_demands.specs.Demand2.{BothRuns, value_in, mark_in, Call, Decodes, answer_to, left_behind}
 
@@ -30,12 +27,12 @@ AllNear file c left d =
 
 -- The demand, of every file.
 pub record Demand3 (file : List ℕ) : Type 0 where
-  pub near : (c : Call) (n : ℕ) (d : Description) → answer_to file c ≡ Decoded.Points n → Decodes file c (left_behind file c) d → AllNear file c (left_behind file c) d
+  pub near : (c : Call) (n : ℕ) (d : Description) → answer_to file c ≡ Ok n → Decodes file c (left_behind file c) d → AllNear file c (left_behind file c) d
   -- So it is of a point that is told alone.
   pub near_alone :
       (k n x : ℕ) (d : Description) (v : Float) →
-      describe file k ≡ Described.As d →
+      describe file k ≡ Ok d →
       n < points_of d.grid →
-      point file k n ≡ Pointed.Value v →
+      point file k n ≡ Ok (Some v) →
       integer_of file d (rank_of file d n) ≡ pos x →
       RebuiltNear d x v

@@ -1,5 +1,5 @@
 -- RULES, "Examples on either side": the examples that are proved, as one table. Each row cites the definition that the code is proved to meet.
-use Rattle.std.specs.Prelude.{◌≡◌, Bool, true, false, List, [], ◌∷◌, ℕ, zero, suc, ℤ, pos, neg_ℤ}
+use Rattle.std.specs.Prelude.{◌≡◌, Bool, true, false, List, [], ◌∷◌, ℕ, zero, suc, ℤ, pos, neg_ℤ, Some, Err}
 use Rattle.std.specs.Float.{binary64}
 use Rattle.std.specs.Float.Ieee.{of_bits, to_bits}
 use Rattle.octets.specs.declared.Signed.{Signed}
@@ -8,7 +8,6 @@ use Rattle.octets.specs.Numbers.{number_at, signed_of, whole}
 use Rattle.bits.specs.Bits.{bits_at}
 use Rattle.calendar.specs.declared.Time.{Time}
 use Rattle.calendar.specs.declared.Unit.TheVariants as Unit
-use Rattle.calendar.specs.declared.Later.TheVariants as Later
 use Rattle.calendar.specs.Calendar.{date, plus}
 use Rattle.doubles.specs.Doubles.{value_of}
 use Rattle.section_3_geometry.specs.declared.DegreeGrid.{DegreeGrid}
@@ -26,7 +25,6 @@ use Rattle.section_7.specs.Packing.{simple_length}
 use Rattle.values_integers.specs.Integers.{integer_at}
 use Rattle.refusals.specs.declared.Why.TheVariants as Why
 use Rattle.refusals.specs.Refusals.{refusal}
-use Rattle.question_picture.specs.declared.Pictured.TheVariants as Pictured
 use Rattle.question_picture.specs.Picture.{header, greys_of, pictured}
 use Rattle.theorems_demands.specs.Sample.{strayed_field}
 
@@ -94,7 +92,7 @@ pub record Examples : Type 0 where
   -- R 0, E 0, D 1 and X 1 make the double nearest to a tenth.
   pub a_tenth : to_bits binary64 (value_of 0 (plain 0) (plain 1) 1) ≡ 0x3fb9_9999_9999_999a
   -- 84 hours after noon of 15 May 2017 the 19th begins.
-  pub after_eighty_four_hours : plus (may 15 12) 84 Unit.Hour ≡ Later.At (may 19 0)
+  pub after_eighty_four_hours : plus (may 15 12) 84 Unit.Hour ≡ Some (may 19 0)
   -- Of four points, the bitmap 0xA0 has the first and the third.
   pub first_and_third : example_present 0 ∷ example_present 1 ∷ example_present 2 ∷ example_present 3 ∷ [] ≡ 1 ∷ 0 ∷ 1 ∷ 0 ∷ []
   -- On every grid of 1,422 columns from 116.969697 to 160.030303 degrees, column 1421 lies at 160.030303.
@@ -120,5 +118,5 @@ pub record Examples : Type 0 where
   -- Of the four points above, the first with X 2912 is white, the third with X 2748 is nearly so, and the two that are missing are black.
   pub four_greys : greys_of example_present example_x 4 ≡ 255 ∷ 0 ∷ 240 ∷ 0 ∷ []
   -- The field that strays has 2 x 2 points. Its picture is refused for a run that is one octet too short, and for its integers where the run is long enough.
-  pub room_first : pictured strayed_field 0 14 ≡ Pictured.Refused (refusal Why.NoRoom 0)
-  pub range_behind : pictured strayed_field 0 15 ≡ Pictured.Refused (refusal Why.ValueOutOfRange 199)
+  pub room_first : pictured strayed_field 0 14 ≡ Err (refusal Why.NoRoom 0)
+  pub range_behind : pictured strayed_field 0 15 ≡ Err (refusal Why.ValueOutOfRange 199)

@@ -1,24 +1,21 @@
 -- RULES, "How strong each statement is": readers that would satisfy weaker statements. Each of these is any function that meets the contract of check or
 -- of decode for every input, and yet does as the impostor does: there is none.
-use Rattle.std.specs.Prelude.{ℕ, ◌≡◌, List, Float}
+use Rattle.std.specs.Prelude.{ℕ, ◌≡◌, List, Float, Result, Ok, Err}
 use Rattle.refusals.specs.declared.Refusal.{Refusal}
-use Rattle.tiling.specs.declared.Checked as declaredChecked
-use Rattle.tiling.specs.declared.Checked.TheVariants as Checked
-use Rattle.tiling.specs.Tiling.{check}
-use Rattle.question_decode.specs.declared.Decoded as declaredDecoded
-use Rattle.question_decode.specs.declared.Decoded.TheVariants as Decoded
+use Rattle.tiling.specs.Tiling.{check, both_counts}
 use Rattle.theorems_demands.specs.Demand2.{BothRuns, Call, answer_to, left_behind}
+use Rattle.tiling.specs.declared.Counts.{Counts}
 
 -- A checker, and that it meets the contract of check.
 abbrev pub Checker : Type 0
-Checker = List ℕ → declaredChecked.Checked
+Checker = List ℕ → Result Counts Refusal
 
 abbrev pub MeetsCheck : Checker → Type 0
 MeetsCheck checker = (file : List ℕ) → checker file ≡ check file
 
 -- What a call of decode leaves: its answer, and both runs.
 pub record Left : Type 0 where
-  pub answer : declaredDecoded.Decoded
+  pub answer : Result ℕ Refusal
   pub runs : BothRuns
 
 -- A decoder, and that it meets the contract of decode.
@@ -36,14 +33,14 @@ MeetsDecode decoder = (file : List ℕ) (k start : ℕ) (values : List Float) (p
 -- What no function does that meets the contract of check, or of decode.
 pub record NoImpostor : Type 0 where
   -- One that refuses every file.
-  pub refuses_every_file : (c : Checker) → MeetsCheck c → ((file : List ℕ) → (r : Refusal) × (c file ≡ Checked.Refused r)) → ⊥
+  pub refuses_every_file : (c : Checker) → MeetsCheck c → ((file : List ℕ) → (r : Refusal) × (c file ≡ Err r)) → ⊥
   -- One that invents the field count: it is the same for all files that it takes.
-  pub invents_the_count : (c : Checker) → MeetsCheck c → (n : ℕ) → ((file : List ℕ) (messages fields : ℕ) → c file ≡ Checked.Counts messages fields → fields ≡ n) → ⊥
+  pub invents_the_count : (c : Checker) → MeetsCheck c → (n : ℕ) → ((file : List ℕ) (messages fields : ℕ) → c file ≡ Ok (both_counts messages fields) → fields ≡ n) → ⊥
   -- One that returns the same field each time, whatever the file and k are.
   pub returns_one_field :
       (d : Decoder) → MeetsDecode d →
       ((file other : List ℕ) (k l start n m : ℕ) (values : List Float) (presence : List ℕ) →
-      (d file k start values presence).answer ≡ Decoded.Points n → (d other l start values presence).answer ≡ Decoded.Points m →
+      (d file k start values presence).answer ≡ Ok n → (d other l start values presence).answer ≡ Ok m →
       (d file k start values presence).runs.values ≡ (d other l start values presence).runs.values) → ⊥
   -- One that writes nothing.
   pub writes_nothing : (d : Decoder) → MeetsDecode d → ((file : List ℕ) (k start : ℕ) (values : List Float) (presence : List ℕ) → (d file k start values presence).runs.values ≡ values) → ⊥
@@ -51,4 +48,4 @@ pub record NoImpostor : Type 0 where
   -- One that decodes field 0 and repeats it for later k.
   pub repeats_field_0 :
       (d : Decoder) → MeetsDecode d →
-      ((file : List ℕ) (k start n : ℕ) (values : List Float) (presence : List ℕ) → (d file k start values presence).answer ≡ Decoded.Points n → (d file k start values presence).runs.values ≡ (d file 0 start values presence).runs.values) → ⊥
+      ((file : List ℕ) (k start n : ℕ) (values : List Float) (presence : List ℕ) → (d file k start values presence).answer ≡ Ok n → (d file k start values presence).runs.values ≡ (d file 0 start values presence).runs.values) → ⊥

@@ -1,24 +1,21 @@
 -- RULES, "The eight questions": the questions that are asked of a file, and what comes of each, by the definitions that the contracts of the
 -- public functions cite.
-use Rattle.std.specs.Prelude.{ℕ, List}
+use Rattle.std.specs.Prelude.{ℕ, List, Option, Some, None, Result, Ok, Err, Float}
 use Rattle.refusals.specs.declared.Refusal.{Refusal}
 use Rattle.refusals.specs.Refusals.{number_of}
-use Rattle.tiling.specs.declared.Checked.{Checked}
 use Rattle.tiling.specs.Tiling as Tiling
-use Rattle.question.specs.declared.Described.{Described}
 use Rattle.question.specs.Describe as Describe
 use Rattle.question.specs.Judge.{Asks, judge}
-use Rattle.question_place.specs.declared.Placed.{Placed}
-use Rattle.question_place.specs.declared.OnSheet.{OnSheet}
-use Rattle.question_place.specs.declared.OnDegrees.{OnDegrees}
-use Rattle.question_place.specs.declared.OnLambert.{OnLambert}
 use Rattle.question_place.specs.Place as Place
-use Rattle.question_decode.specs.declared.Decoded.{Decoded}
 use Rattle.question_decode.specs.Decoding.{answer}
-use Rattle.question_point.specs.declared.Pointed.{Pointed}
 use Rattle.question_point.specs.Point as Point
-use Rattle.question_picture.specs.declared.Pictured.{Pictured}
 use Rattle.question_picture.specs.Picture as Picture
+use Rattle.tiling.specs.declared.Counts.{Counts}
+use Rattle.question.specs.declared.Description.{Description}
+use Rattle.section_3_geometry.specs.declared.DegreeGrid.{DegreeGrid}
+use Rattle.section_3_geometry.specs.declared.LambertGrid.{LambertGrid}
+use Rattle.section_3_lambert.specs.declared.SheetPlace.{SheetPlace}
+use Rattle.section_3_geometry.specs.declared.Position.{Position}
 
 -- Check the file; describe field k; place point n of field k, in degrees or on the sheet; decode field k from a start index on, into runs of these two lengths; tell
 -- the value of point n of field k; draw field k into a run of so many octets. C has field k described, and point n of it placed and told, into a run of so many
@@ -44,42 +41,42 @@ pub data Verdict : Type 0 where
 abbrev pub refused_by : Refusal → Verdict
 refused_by r = refused (number_of r.why) r.place.0
 
-abbrev pub of_checked : Checked → Verdict
-of_checked (Checked.Counts messages fields) = answered
-of_checked (Checked.Refused r) = refused_by r
+abbrev pub of_checked : Result Counts Refusal → Verdict
+of_checked (Ok both) = answered
+of_checked (Err r) = refused_by r
 
-abbrev pub of_described : Described → Verdict
-of_described (Described.As d) = answered
-of_described (Described.Refused r) = refused_by r
+abbrev pub of_described : Result Description Refusal → Verdict
+of_described (Ok d) = answered
+of_described (Err r) = refused_by r
 
-abbrev pub of_placed : Placed → Verdict
-of_placed (Placed.At p) = answered
-of_placed (Placed.Refused r) = refused_by r
+abbrev pub of_placed : Result Position Refusal → Verdict
+of_placed (Ok p) = answered
+of_placed (Err r) = refused_by r
 
-abbrev pub of_sheet : OnSheet → Verdict
-of_sheet (OnSheet.At p) = answered
-of_sheet (OnSheet.Refused r) = refused_by r
+abbrev pub of_sheet : Result SheetPlace Refusal → Verdict
+of_sheet (Ok p) = answered
+of_sheet (Err r) = refused_by r
 
-abbrev pub of_degrees : OnDegrees → Verdict
-of_degrees (OnDegrees.Grid g) = answered
-of_degrees (OnDegrees.Refused r) = refused_by r
+abbrev pub of_degrees : Result DegreeGrid Refusal → Verdict
+of_degrees (Ok g) = answered
+of_degrees (Err r) = refused_by r
 
-abbrev pub of_lambert : OnLambert → Verdict
-of_lambert (OnLambert.Grid g) = answered
-of_lambert (OnLambert.Refused r) = refused_by r
+abbrev pub of_lambert : Result LambertGrid Refusal → Verdict
+of_lambert (Ok g) = answered
+of_lambert (Err r) = refused_by r
 
-abbrev pub of_decoded : Decoded → Verdict
-of_decoded (Decoded.Points n) = answered
-of_decoded (Decoded.Refused r) = refused_by r
+abbrev pub of_decoded : Result ℕ Refusal → Verdict
+of_decoded (Ok n) = answered
+of_decoded (Err r) = refused_by r
 
-abbrev pub of_pointed : Pointed → Verdict
-of_pointed (Pointed.Value v) = answered
-of_pointed Pointed.Missing = answered
-of_pointed (Pointed.Refused r) = refused_by r
+abbrev pub of_pointed : Result (Option Float) Refusal → Verdict
+of_pointed (Ok (Some v)) = answered
+of_pointed (Ok None) = answered
+of_pointed (Err r) = refused_by r
 
-abbrev pub of_pictured : Pictured → Verdict
-of_pictured (Pictured.Octets n) = answered
-of_pictured (Pictured.Refused r) = refused_by r
+abbrev pub of_pictured : Result ℕ Refusal → Verdict
+of_pictured (Ok n) = answered
+of_pictured (Err r) = refused_by r
 
 abbrev pub verdict : List ℕ → Question → Verdict
 verdict file check = of_checked (Tiling.check file)

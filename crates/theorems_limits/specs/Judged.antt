@@ -1,28 +1,26 @@
 -- RULES, "Examples on either side": whether a section is taken, as its reading tells; and how a row says which numbers a section may hold in some of its
 -- octets.
-use Rattle.std.specs.Prelude.{ℕ, ◌+◌, Bool, true, false, not, ◌&&◌, ◌≡◌, List, [], ◌∷◌, ◌++◌}
+use Rattle.std.specs.Prelude.{ℕ, ◌+◌, Bool, true, false, not, ◌&&◌, ◌≡◌, List, [], ◌∷◌, ◌++◌, Option, Some, None}
 use Rattle.octets.specs.declared.Signed.{Signed}
 use Rattle.octets.specs.Places.{at}
 use Rattle.calendar.specs.declared.Time.{Time}
 use Rattle.calendar.specs.Calendar.{date}
-use Rattle.tiling_sections.specs.declared.Bitmap.{Bitmap}
-use Rattle.section_1.specs.declared.Identified.{Identified}
 use Rattle.section_1.specs.Identification.{identification_at}
-use Rattle.section_3.specs.declared.Gridded.{Gridded}
 use Rattle.section_3.specs.Section3.{grid_at}
-use Rattle.section_4.specs.declared.Defined.{Defined}
-use Rattle.section_4.specs.declared.Moment.{Moment}
 use Rattle.section_4.specs.Product.{later, product_definition_at}
-use Rattle.section_5.specs.declared.Represented.{Represented}
 use Rattle.section_5.specs.Representation.{representation_at}
 use Rattle.section_5_groups.specs.declared.Grouping.{Grouping}
 use Rattle.section_5.specs.declared.Template.{Template}
 use Rattle.section_5.specs.declared.Representation.{Representation}
-use Rattle.section_6.specs.declared.Marked.{Marked}
 use Rattle.section_6.specs.Presence.{presence_at}
-use Rattle.section_7.specs.declared.Packed.{Packed}
 use Rattle.section_7.specs.Packing.{data_at}
 use Rattle.theorems_limits.specs.Samples.{holding, start, in_file, sample1, sample3, sphere3, lambert3, lambert_sphere3, instant4, interval4, simple5, complex5, bitmap6, complex7}
+use Rattle.octets.specs.declared.FilePlace.{FilePlace}
+use Rattle.section_4.specs.declared.ProductDefinition.{ProductDefinition}
+use Rattle.section_3_geometry.specs.declared.Grid.{Grid}
+use Rattle.section_1.specs.declared.Identification.{Identification}
+use Rattle.section_6.specs.declared.Presence.{Presence}
+use Rattle.section_7.specs.declared.Data.{Data}
 
 abbrev every : (ℕ → Bool) → List ℕ → Bool
 every judged [] = true
@@ -51,9 +49,9 @@ abbrev pub minus2 : ℕ → ℕ
 minus2 size = 0x8000 + size
 
 -- Section 1, with another number in its octets from a to b, and with another date.
-abbrev is_identified : Identified → Bool
-is_identified (Identified.As i) = true
-is_identified Identified.NotTaken = false
+abbrev is_identified : Option Identification → Bool
+is_identified (Some i) = true
+is_identified None = false
 
 abbrev taken1 : List ℕ → Bool
 taken1 section = is_identified (identification_at (in_file section) start)
@@ -65,9 +63,9 @@ abbrev pub dated : ℕ → ℕ → ℕ → Bool
 dated year month day = taken1 (holding 13 14 year (holding 15 15 month (holding 16 16 day sample1)))
 
 -- Section 3, with another number in its octets from a to b: on the earth of code 6, and on a sphere of its own radius.
-abbrev is_gridded : Gridded → Bool
-is_gridded (Gridded.On g) = true
-is_gridded Gridded.NotTaken = false
+abbrev is_gridded : Option Grid → Bool
+is_gridded (Some g) = true
+is_gridded None = false
 
 abbrev taken3 : List ℕ → Bool
 taken3 section = is_gridded (grid_at (in_file section) start)
@@ -116,9 +114,9 @@ from_north first last = taken3 (holding 47 50 first (holding 56 59 last sample3)
 abbrev pub reference : Time
 reference = clock 2017 5 15 12 30 45
 
-abbrev is_defined : Defined → Bool
-is_defined (Defined.As d) = true
-is_defined Defined.NotTaken = false
+abbrev is_defined : Option ProductDefinition → Bool
+is_defined (Some d) = true
+is_defined None = false
 
 abbrev taken4 : List ℕ → Bool
 taken4 section = is_defined (product_definition_at (in_file section) start reference)
@@ -134,17 +132,17 @@ abbrev pub octets_levelless : ℕ → ℕ → ℕ → Bool
 octets_levelless a b number = taken4 (holding a b number (holding 24 24 255 instant4))
 
 -- A time so many minutes after 2399-12-31 23:30:00, where it is reached.
-abbrev is_reached : Moment → Bool
-is_reached (Moment.At t) = true
-is_reached Moment.Never = false
+abbrev is_reached : Option Time → Bool
+is_reached (Some t) = true
+is_reached None = false
 
 abbrev pub in_last_hour : ℕ → Bool
 in_last_hour minutes = is_reached (later (clock 2399 12 31 23 30 0) minutes 0)
 
 -- Section 5, by either template, with another number in its octets from a to b.
-abbrev is_represented : Represented → Bool
-is_represented (Represented.By r) = true
-is_represented Represented.NotTaken = false
+abbrev is_represented : Option Representation → Bool
+is_represented (Some r) = true
+is_represented None = false
 
 abbrev taken5 : List ℕ → Bool
 taken5 section = is_represented (representation_at (in_file section) start)
@@ -160,26 +158,26 @@ abbrev pub grouped5 : ℕ → ℕ → Bool
 grouped5 groups n = taken5 (holding 6 9 n (holding 32 35 groups complex5))
 
 -- Section 6 for so many points, of which n are present: with a bitmap of its own, and without one, after a section that has it.
-abbrev is_marked : Marked → Bool
-is_marked (Marked.As p) = true
-is_marked Marked.NotTaken = false
+abbrev is_marked : Option Presence → Bool
+is_marked (Some p) = true
+is_marked None = false
 
 abbrev pub octets_bitmap : ℕ → ℕ → ℕ → ℕ → ℕ → Bool
-octets_bitmap points n a b number = is_marked (presence_at (in_file (holding a b number bitmap6)) start Bitmap.Absent points n)
+octets_bitmap points n a b number = is_marked (presence_at (in_file (holding a b number bitmap6)) start None points n)
 
 abbrev unmapped6 : List ℕ
 unmapped6 = holding 1 4 6 (holding 6 6 254 bitmap6)
 
-abbrev pub octets_unmapped : Bitmap → ℕ → ℕ → ℕ → ℕ → ℕ → Bool
+abbrev pub octets_unmapped : Option FilePlace → ℕ → ℕ → ℕ → ℕ → ℕ → Bool
 octets_unmapped bitmap points n a b number = is_marked (presence_at (in_file (bitmap6 ++ holding a b number unmapped6)) (start + 8) bitmap points n)
 
-abbrev pub the_bitmap : Bitmap
-the_bitmap = Bitmap.At (at start)
+abbrev pub the_bitmap : Option FilePlace
+the_bitmap = Some (at start)
 
 -- Section 7 by either template, for so many values of so many bits, with another length.
-abbrev is_packed : Packed → Bool
-is_packed (Packed.As d) = true
-is_packed Packed.NotTaken = false
+abbrev is_packed : Option Data → Bool
+is_packed (Some d) = true
+is_packed None = false
 
 abbrev pub values_by : Template → ℕ → ℕ → Representation
 values_by template n bits = record { n = n; r = 0; e = above 0; d = above 0; bits = bits; template = template }

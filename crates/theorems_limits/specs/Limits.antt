@@ -2,15 +2,11 @@
 -- proved to meet. `octets1 20 20 takes (0 ∷ 1 ∷ []) refuses (2 ∷ [])` says that the sample of section 1 is taken with 0 or 1 in its octet 20, and not with
 -- 2. Some numbers that are refused differ from a taken one in one octet alone, so that each octet is seen to count. What is read of a sample is said whole,
 -- so that an octet that is read in the wrong place shows. `make limits` changes each number of the definitions by one, and sees a row break.
-use Rattle.std.specs.Prelude.{ℕ, true, false, ◌≡◌, List, [], ◌∷◌, map}
+use Rattle.std.specs.Prelude.{ℕ, true, false, ◌≡◌, List, [], ◌∷◌, map, Option, Some, None, Ok, Err}
 use Rattle.octets.specs.Places.{at}
 use Rattle.calendar.specs.declared.Time.{Time}
 use Rattle.calendar.specs.declared.Unit.TheVariants as Unit
-use Rattle.calendar.specs.declared.Reading.TheVariants as Reading
-use Rattle.calendar.specs.declared.Later.TheVariants as Later
-use Rattle.calendar.specs.Calendar.{plus, fourteen_digits, digits_of}
-use Rattle.tiling_sections.specs.declared.Bitmap.TheVariants as Bitmap
-use Rattle.section_1.specs.declared.Identified.TheVariants as Identified
+use Rattle.calendar.specs.Calendar.{unit_of, plus, fourteen_digits, digits_of}
 use Rattle.section_1.specs.Identification.{identification_at}
 use Rattle.section_3_geometry.specs.declared.LambertGrid.{LambertGrid}
 use Rattle.section_3_geometry.specs.declared.Grid.{Grid}
@@ -18,30 +14,26 @@ use Rattle.section_3_geometry.specs.Geometry.{south_of, template_of}
 use Rattle.section_3_positions.specs.Positions.{longitude_at, latitude_at}
 use Rattle.section_3_lambert.specs.declared.SheetPlace.{SheetPlace}
 use Rattle.section_3_lambert.specs.Sheet.{sheet_of}
-use Rattle.section_3.specs.declared.Gridded.TheVariants as Gridded
 use Rattle.section_3.specs.Section3.{grid_at}
 use Rattle.section_4.specs.declared.Level.{Level}
 use Rattle.section_4.specs.declared.Kind.TheVariants as Kind
 use Rattle.section_4.specs.declared.Product as Declared
 use Rattle.section_4.specs.declared.Product.TheVariants as Product
-use Rattle.section_4.specs.declared.Defined.{Defined}
-use Rattle.section_4.specs.declared.Moment.TheVariants as Moment
-use Rattle.section_4.specs.Product.{is_product, later, ending, interval_of, defined_at, product_definition_at}
+use Rattle.section_4.specs.Product.{is_product, later, kind_of, ending, interval_of, defined_at, product_definition_at}
 use Rattle.section_5_groups.specs.declared.Grouping.{Grouping}
 use Rattle.section_5.specs.declared.Template.{Template}
-use Rattle.section_5.specs.declared.Represented.{Represented}
 use Rattle.section_5.specs.Representation.{representation_at, template_number}
 use Rattle.section_6.specs.declared.Presence.TheVariants as Presence
-use Rattle.section_6.specs.declared.Marked.TheVariants as Marked
 use Rattle.section_6.specs.Presence.{bitmap_length, presence_at, indicator_of, present_at, present_before}
 use Rattle.section_7_layout.specs.declared.Layout.{Layout}
 use Rattle.section_7_layout.specs.declared.Differencing.{Differencing}
 use Rattle.section_7_layout.specs.Runs.{width_of, length_of}
-use Rattle.section_7.specs.declared.Data.TheVariants as Data
-use Rattle.section_7.specs.declared.Packed.{Packed}
+use Rattle.section_7.specs.declared.Data.{Data}
 use Rattle.section_7.specs.Packing.{data_at}
 use Rattle.theorems_limits.specs.Samples.{holding, start, in_file, sample1, sample3, sphere3, lambert3, lambert_sphere3, instant4, interval4, simple5, complex5, bitmap6, complex7}
 use Rattle.theorems_limits.specs.Judged.{◌takes◌refuses◌, clock, above, below, minus2, minus4, octets1, dated, octets3, octets_sphere, octets_lambert, octets_lambert_sphere, sheeted, heaped, latitudes, longitudes, from_east, from_north, reference, octets4, octets_interval, octets_levelless, in_last_hour, octets_simple, octets_complex, grouped5, octets_bitmap, octets_unmapped, the_bitmap, values_by, grouping7, taken7}
+use Rattle.section_4.specs.declared.ProductDefinition.{ProductDefinition}
+use Rattle.section_5.specs.declared.Representation.{Representation}
 
 -- Section 3's sample as it is read: the grid, on an earth of code 6, and on a sphere with a radius of its own.
 abbrev sample_grid : ℕ → ℕ → Grid
@@ -73,9 +65,9 @@ abbrev right_and_down : ℕ → ℕ → SheetPlace
 right_and_down right down = record { right = right; down = down }
 
 -- Section 4's sample as it is read.
-abbrev sample_product : Time → Level → Declared.Product → Defined
+abbrev sample_product : Time → Option Level → Declared.Product → Option ProductDefinition
 sample_product valid level product =
-    Defined.As (record { category = 0x61; parameter = 0x62; process = 0x63; surface = 0x69; level = level; product = product; valid = valid })
+    Some (record { category = 0x61; parameter = 0x62; process = 0x63; surface = 0x69; level = level; product = product; valid = valid })
 
 abbrev three_hours_ahead : Time
 three_hours_ahead = clock 2017 5 15 15 30 45
@@ -83,8 +75,8 @@ three_hours_ahead = clock 2017 5 15 15 30 45
 abbrev five_hours_ahead : Time
 five_hours_ahead = clock 2017 5 15 17 30 45
 
-abbrev sample_level : Level
-sample_level = Level.At (below 2) 0x0102_0304
+abbrev sample_level : Option Level
+sample_level = Some (record { factor = below 2; scaled = 0x0102_0304 })
 
 -- The same with a number in which each octet counts, for the forecast, and for the length of the interval.
 abbrev four_octet_forecast : List ℕ
@@ -94,9 +86,9 @@ abbrev four_octet_length : List ℕ
 four_octet_length = in_file (holding 50 53 0x0102_0304 interval4)
 
 -- Section 5's sample as it is read, by either template.
-abbrev sample_representation : Template → Represented
+abbrev sample_representation : Template → Option Representation
 sample_representation template =
-    Represented.By (record { n = 0x0a0b_0c0d; r = 0x4142_4344; e = below 17; d = below 7; bits = 12; template = template })
+    Some (record { n = 0x0a0b_0c0d; r = 0x4142_4344; e = below 17; d = below 7; bits = 12; template = template })
 
 abbrev sample_grouping : Grouping
 sample_grouping =
@@ -117,8 +109,8 @@ sample_layout = record { references = record { 0 = 12 }; widths = record { 0 = 1
 abbrev sample_differencing : Differencing
 sample_differencing = record { first = 258; second = 772; zmin = below 5 }
 
-abbrev sample_data : Packed
-sample_data = Packed.As (Data.Complex (record { layout = sample_layout; grouping = sample_groups; bits = 7; differencing = sample_differencing }))
+abbrev sample_data : Option Data
+sample_data = Some (Data.Complex (record { layout = sample_layout; grouping = sample_groups; bits = 7; differencing = sample_differencing }))
 
 pub record SectionLimits : Type 0 where
   -- Section 1: length, centre, meaning of the time, status; and what is read.
@@ -126,7 +118,7 @@ pub record SectionLimits : Type 0 where
   pub centre : octets1 6 7 takes (34 ∷ []) refuses (33 ∷ 35 ∷ 290 ∷ [])
   pub octet12 : octets1 12 12 takes (1 ∷ []) refuses (0 ∷ 2 ∷ [])
   pub status : octets1 20 20 takes (0 ∷ 1 ∷ []) refuses (2 ∷ [])
-  pub read1 : identification_at (in_file sample1) start ≡ Identified.As (record { status = 1; reference = reference })
+  pub read1 : identification_at (in_file sample1) start ≡ Some (record { status = 1; reference = reference })
   -- Its time.
   pub years : octets1 13 14 takes (1900 ∷ 2399 ∷ []) refuses (1899 ∷ 2400 ∷ [])
   pub months : octets1 15 15 takes (1 ∷ 12 ∷ []) refuses (0 ∷ 13 ∷ [])
@@ -139,13 +131,13 @@ pub record SectionLimits : Type 0 where
   pub february29 : (λ year. dated year 2 29) takes (2000 ∷ 2016 ∷ []) refuses (1900 ∷ 2017 ∷ 2100 ∷ [])
   pub february28 : (λ year. dated year 2 28) takes (1900 ∷ 2000 ∷ 2016 ∷ 2017 ∷ []) refuses []
   -- A time after another, as section 4 asks for it; and its fourteen digits.
-  pub next_minute : plus (clock 2017 5 15 23 59 0) 1 Unit.Minute ≡ Later.At (clock 2017 5 16 0 0 0)
-  pub next_hour : plus (clock 2017 5 15 0 0 0) 1 Unit.Hour ≡ Later.At (clock 2017 5 15 1 0 0)
-  pub next_day : plus (clock 2017 5 15 23 59 59) 1 Unit.Day ≡ Later.At (clock 2017 5 16 23 59 59)
-  pub next_month : plus (clock 2017 11 30 12 30 45) 1 Unit.Day ≡ Later.At (clock 2017 12 1 12 30 45)
-  pub next_year : plus (clock 2016 12 31 12 30 45) 1 Unit.Day ≡ Later.At (clock 2017 1 1 12 30 45)
-  pub before_the_hour : plus (clock 2017 5 15 0 58 59) 1 Unit.Minute ≡ Later.At (clock 2017 5 15 0 59 59)
-  pub before_midnight : plus (clock 2017 5 15 23 58 59) 1 Unit.Minute ≡ Later.At (clock 2017 5 15 23 59 59)
+  pub next_minute : plus (clock 2017 5 15 23 59 0) 1 Unit.Minute ≡ Some (clock 2017 5 16 0 0 0)
+  pub next_hour : plus (clock 2017 5 15 0 0 0) 1 Unit.Hour ≡ Some (clock 2017 5 15 1 0 0)
+  pub next_day : plus (clock 2017 5 15 23 59 59) 1 Unit.Day ≡ Some (clock 2017 5 16 23 59 59)
+  pub next_month : plus (clock 2017 11 30 12 30 45) 1 Unit.Day ≡ Some (clock 2017 12 1 12 30 45)
+  pub next_year : plus (clock 2016 12 31 12 30 45) 1 Unit.Day ≡ Some (clock 2017 1 1 12 30 45)
+  pub before_the_hour : plus (clock 2017 5 15 0 58 59) 1 Unit.Minute ≡ Some (clock 2017 5 15 0 59 59)
+  pub before_midnight : plus (clock 2017 5 15 23 58 59) 1 Unit.Minute ≡ Some (clock 2017 5 15 23 59 59)
   pub last_year : in_last_hour takes (29 ∷ []) refuses (30 ∷ [])
   pub digits : fourteen_digits (clock 2017 5 15 13 46 29) ≡ 20170515134629
   pub characters : digits_of (clock 2017 5 15 13 46 29) ≡ 50 ∷ 48 ∷ 49 ∷ 55 ∷ 48 ∷ 53 ∷ 49 ∷ 53 ∷ 49 ∷ 51 ∷ 52 ∷ 54 ∷ 50 ∷ 57 ∷ []
@@ -160,8 +152,8 @@ pub record SectionLimits : Type 0 where
   pub earths : octets_sphere 15 15 takes (1 ∷ 6 ∷ []) refuses (0 ∷ 2 ∷ 5 ∷ 7 ∷ [])
   pub grid16 : octets_sphere 16 16 takes (0 ∷ []) refuses (1 ∷ [])
   pub radii : octets_sphere 17 20 takes (1 ∷ 0x0100_0000 ∷ 0xffff_fffe ∷ []) refuses (0 ∷ 0xffff_ffff ∷ [])
-  pub read_earth6 : grid_at (in_file sample3) start ≡ Gridded.On (sample_grid 6 6371229)
-  pub read_sphere : grid_at (in_file (holding 17 20 0x0102_0304 sphere3)) start ≡ Gridded.On (sample_grid 1 0x0102_0304)
+  pub read_earth6 : grid_at (in_file sample3) start ≡ Some (sample_grid 6 6371229)
+  pub read_sphere : grid_at (in_file (holding 17 20 0x0102_0304 sphere3)) start ≡ Some (sample_grid 1 0x0102_0304)
   -- The counts: Ni, Nj, their product, and what octets 7-10 tell of it.
   pub columns : (λ ni. heaped ni 1 ni) takes (1 ∷ 65535 ∷ []) refuses (0 ∷ 65536 ∷ [])
   pub rows : (λ nj. heaped 1 nj nj) takes (1 ∷ 65535 ∷ []) refuses (0 ∷ 65536 ∷ [])
@@ -222,8 +214,8 @@ pub record SectionLimits : Type 0 where
   pub cutting2 : octets_lambert 70 73 takes (0 ∷ 90000000 ∷ minus4 90000000 ∷ []) refuses (90000001 ∷ minus4 90000001 ∷ [])
   pub lambert74 : octets_lambert 74 81 takes (0 ∷ 0xffff_ffff_ffff_ffff ∷ []) refuses []
   -- What is read of it, and where its points lie on the sheet.
-  pub read_lambert : grid_at (in_file lambert3) start ≡ Gridded.On (Grid.Lambert (sample_lambert 6 6371229))
-  pub read_lambert_sphere : grid_at (in_file (holding 17 20 0x0102_0304 lambert_sphere3)) start ≡ Gridded.On (Grid.Lambert (sample_lambert 1 0x0102_0304))
+  pub read_lambert : grid_at (in_file lambert3) start ≡ Some (Grid.Lambert (sample_lambert 6 6371229))
+  pub read_lambert_sphere : grid_at (in_file (holding 17 20 0x0102_0304 lambert_sphere3)) start ≡ Some (Grid.Lambert (sample_lambert 1 0x0102_0304))
   pub on_sheet :
       map (sheet_of (sample_lambert 6 6371229)) (0 ∷ 2 ∷ 3 ∷ 5 ∷ [])
       ≡ right_and_down 0 0 ∷ right_and_down 33818120 0 ∷ right_and_down 0 84281096 ∷ right_and_down 33818120 84281096 ∷ []
@@ -237,7 +229,9 @@ pub record SectionLimits : Type 0 where
   pub units : octets4 18 18 takes (0 ∷ 1 ∷ 2 ∷ []) refuses (3 ∷ 255 ∷ [])
   pub minute_hour_day :
       map (later reference 3) (0 ∷ 1 ∷ 2 ∷ [])
-      ≡ Moment.At (clock 2017 5 15 12 33 45) ∷ Moment.At (clock 2017 5 15 15 30 45) ∷ Moment.At (clock 2017 5 18 12 30 45) ∷ []
+      ≡ Some (clock 2017 5 15 12 33 45) ∷ Some (clock 2017 5 15 15 30 45) ∷ Some (clock 2017 5 18 12 30 45) ∷ []
+  pub unit_numbers : map unit_of (0 ∷ 1 ∷ 2 ∷ 3 ∷ []) ≡ Ok Unit.Minute ∷ Ok Unit.Hour ∷ Ok Unit.Day ∷ Err (record { 0 = 3 }) ∷ []
+  pub kind_numbers : map kind_of (0 ∷ 1 ∷ 2 ∷ []) ≡ Ok Kind.Mean ∷ Ok Kind.Sum ∷ Err (record { 0 = 2 }) ∷ []
   pub forecasts : (λ time. is_product (in_file (holding 19 22 time instant4)) start) takes (0 ∷ 2147483647 ∷ []) refuses (2147483648 ∷ [])
   pub surfaces : octets4 23 23 takes (0 ∷ 254 ∷ []) refuses (255 ∷ [])
   pub product29 : octets4 29 34 takes (0xffff_ffff_ffff ∷ []) refuses (0xffff_ffff_fffe ∷ 0x7fff_ffff_ffff ∷ [])
@@ -255,7 +249,7 @@ pub record SectionLimits : Type 0 where
   pub read_instant : product_definition_at (in_file instant4) start reference ≡ sample_product three_hours_ahead sample_level Product.Instant
   pub read_levelless :
       product_definition_at (in_file (holding 24 28 0xff_ffff_ffff instant4)) start reference
-      ≡ sample_product three_hours_ahead Level.Absent Product.Instant
+      ≡ sample_product three_hours_ahead None Product.Instant
   pub read_sum :
       product_definition_at (in_file interval4) start reference
       ≡ sample_product three_hours_ahead sample_level (Product.Interval five_hours_ahead Kind.Sum)
@@ -266,7 +260,7 @@ pub record SectionLimits : Type 0 where
   pub forecast_octets : (from : Time) → product_definition_at four_octet_forecast start from ≡ defined_at four_octet_forecast start (later from 0x0102_0304 1)
   pub length_octets :
       (from : Time)
-      → interval_of four_octet_length start from Kind.Sum ≡ ending Kind.Sum (Reading.At five_hours_ahead) (later from 0x0102_0304 1)
+      → interval_of four_octet_length start from Kind.Sum ≡ ending Kind.Sum (Some five_hours_ahead) (later from 0x0102_0304 1)
   -- Section 5: length and template, R, E, D, bits; and what is read.
   pub length50 : octets_simple 1 4 takes (21 ∷ []) refuses (20 ∷ 22 ∷ 49 ∷ [])
   pub length53 : octets_complex 1 4 takes (49 ∷ []) refuses (21 ∷ 48 ∷ 50 ∷ [])
@@ -301,10 +295,10 @@ pub record SectionLimits : Type 0 where
   pub indicators254 : octets_unmapped the_bitmap 9 4 6 6 takes (254 ∷ []) refuses (0 ∷ 1 ∷ 253 ∷ 255 ∷ [])
   pub present254 : (λ n. octets_unmapped the_bitmap 9 n 6 6 254) takes (4 ∷ []) refuses (3 ∷ 5 ∷ 9 ∷ [])
   pub other_length : (λ points. octets_unmapped the_bitmap points 4 6 6 254) takes (9 ∷ 10 ∷ []) refuses (8 ∷ 17 ∷ [])
-  pub no_bitmap : octets_unmapped Bitmap.Absent 9 9 6 6 takes (255 ∷ []) refuses (0 ∷ 254 ∷ [])
+  pub no_bitmap : octets_unmapped None 9 9 6 6 takes (255 ∷ []) refuses (0 ∷ 254 ∷ [])
   pub present255 : (λ n. octets_unmapped the_bitmap 9 n 6 6 255) takes (9 ∷ []) refuses (4 ∷ 8 ∷ 10 ∷ [])
   -- Which points are present.
-  pub read_own : presence_at (in_file bitmap6) start Bitmap.Absent 9 4 ≡ Marked.As (Presence.Own (at start))
+  pub read_own : presence_at (in_file bitmap6) start None 9 4 ≡ Some (Presence.Own (at start))
   pub present_own :
       map (present_at (in_file bitmap6) (Presence.Own (at start)) 9) (0 ∷ 1 ∷ 2 ∷ 3 ∷ 4 ∷ 5 ∷ 6 ∷ 7 ∷ 8 ∷ [])
       ≡ 1 ∷ 0 ∷ 1 ∷ 0 ∷ 0 ∷ 0 ∷ 0 ∷ 1 ∷ 1 ∷ []

@@ -1,7 +1,10 @@
 -- The contracts of the lowest crates leave nothing open: places and numbers, one section, bits, refusals, times, text, greys and doubles.
 use mathlib.Core.Path.{refl}
+use denote.RattleType.{RattleType}
+use mir.Syntax.{Dict}
+use Rattle.std.specs.declared.clone.Clone.{Ghosts}
 use Rattle.theorems_outcomes.specs.Determined.{Determined, SeenDetermined}
-use Rattle.theorems_outcomes.proofs.Facts.{alike, one}
+use Rattle.theorems_outcomes.proofs.Facts.{alike, one, three}
 use Rattle.octets.specs.contracts as octets
 use Rattle.section.specs.contracts as section
 use Rattle.bits.specs.contracts as bits
@@ -42,10 +45,21 @@ section_held_signed _ 𝓤 𝓛 _ _ _ _ _ _ _ _ _ _ = one 𝓤 (λ p q. (alike p
 pub section_length_of : Determined section.length_of.ended (λ _ _. section.length_of.clauses)
 section_length_of _ 𝓤 𝓛 _ _ _ _ _ _ _ _ _ _ = one 𝓤 (λ p q. (alike p.0 q.0, refl))
 
-pub section_octets_in : SeenDetermined section.octets_in.ended _ (λ _. (λ x. x.now)) (λ _ _. section.octets_in.clauses)
-section_octets_in _ 𝓤 𝓛 _ _ _ _ _ _ _ _ _ _ = one 𝓤 (λ p q. (alike p q, refl))
+pub section_FileSection_length : Determined section.FileSection.length.ended (λ _ _. section.FileSection.length.clauses)
+section_FileSection_length _ 𝓤 𝓛 _ _ _ _ _ _ _ _ _ _ = one 𝓤 (λ p q. (alike p.0 q.0, refl))
 
--- A pair is a record of two numbers.
+pub section_FileSection_octet : Determined section.FileSection.octet.ended (λ _ _. section.FileSection.octet.clauses)
+section_FileSection_octet _ 𝓤 𝓛 _ _ _ _ _ _ _ _ _ _ = one 𝓤 (λ p q. (alike p.0 q.0, refl))
+
+pub section_FileSection_held : Determined section.FileSection.held.ended (λ _ _. section.FileSection.held.clauses)
+section_FileSection_held _ 𝓤 𝓛 _ _ _ _ _ _ _ _ _ _ = one 𝓤 (λ p q. (alike p.0 q.0, refl))
+
+pub section_FileSection_held_signed : Determined section.FileSection.held_signed.ended (λ _ _. section.FileSection.held_signed.clauses)
+section_FileSection_held_signed _ 𝓤 𝓛 _ _ _ _ _ _ _ _ _ _ = one 𝓤 (λ p q. (alike p q, refl))
+
+pub section_FileSection_octets : SeenDetermined section.FileSection.octets.ended _ (λ _. (λ x. x.now)) (λ _ _. section.FileSection.octets.clauses)
+section_FileSection_octets _ 𝓤 𝓛 _ _ _ _ _ _ _ _ _ _ = one 𝓤 (λ p q. (alike p q, refl))
+
 pub bits_eight : Determined bits.eight.ended (λ _ _. bits.eight.clauses)
 bits_eight _ 𝓤 𝓛 _ _ _ _ _ _ _ _ _ _ = one 𝓤 (λ p q. (alike p q, refl))
 
@@ -61,13 +75,9 @@ bits_read_bits _ 𝓤 𝓛 _ _ _ _ _ _ _ _ _ _ = one 𝓤 (λ p q. (alike p q, r
 pub bits_read_wide : Determined bits.read_wide.ended (λ _ _. bits.read_wide.clauses)
 bits_read_wide _ 𝓤 𝓛 _ _ _ _ _ _ _ _ _ _ = one 𝓤 (λ p q. (alike p q, refl))
 
-pub bits_read_pair : Determined bits.read_pair.ended (λ _ _. bits.read_pair.clauses)
-bits_read_pair _ 𝓤 𝓛 _ _ _ _ _ _ _ _ _ _ = one 𝓤 (λ p q. (λ i. record { first = alike p.0 q.0 i; second = alike p.1 q.1 i }, refl))
-
-pub bits_read_four : Determined bits.read_four.ended (λ _ _. bits.read_four.clauses)
-bits_read_four _ 𝓤 𝓛 _ _ _ _ _ _ _ _ _ _ =
-    one 𝓤 (λ p q.
-    (λ i. record { first = alike p.first q.first i; second = alike p.second q.second i; third = alike p.third q.third i; fourth = alike p.fourth q.fourth i }, refl))
+-- So it is whatever number of numbers is read.
+pub bits_read_several : (K : RattleType) → Determined (bits.read_several.ended K) (λ _ _. bits.read_several.clauses K)
+bits_read_several K _ 𝓤 𝓛 _ _ _ _ _ _ _ _ _ _ = one 𝓤 (λ p q. (alike p q, refl))
 
 pub bits_fours_in : Determined bits.fours_in.ended (λ _ _. bits.fours_in.clauses)
 bits_fours_in _ 𝓤 𝓛 _ _ _ _ _ _ _ _ _ _ = one 𝓤 (λ p q. (alike p q, refl))
@@ -84,71 +94,26 @@ bits_octets_of_run _ 𝓤 𝓛 _ _ _ _ _ _ _ _ _ _ = one 𝓤 (λ p q. (alike p 
 pub bits_ones_ones_before : Determined bits_ones.ones_before.ended (λ _ _. bits_ones.ones_before.clauses)
 bits_ones_ones_before _ 𝓤 𝓛 _ _ _ _ _ _ _ _ _ _ = one 𝓤 (λ p q. (alike p q, refl))
 
--- A reader is a record of its run and its place: it is the very run that it was made of.
-pub bits_reader_new : Determined bits_reader.new.ended (λ _ _. bits_reader.new.clauses)
-bits_reader_new _ 𝓤 𝓛 _ _ _ _ _ _ _ _ _ _ = one 𝓤 (λ p q. (λ i. record { run = alike p.0 q.0 i; at = alike p.1 q.1 i }, refl))
+-- A reader is a record of its run and its place: it is the very run that it was made of, before a reading and behind it.
+pub bits_reader_BitReader_new : Determined bits_reader.BitReader.new.ended (λ _ _. bits_reader.BitReader.new.clauses)
+bits_reader_BitReader_new _ 𝓤 𝓛 _ _ _ _ _ _ _ _ _ _ = one 𝓤 (λ p q. (λ i. record { run = alike p.0 q.0 i; at = alike p.1 q.1 i }, refl))
 
--- What was read is a record of its number, or its pair, and the reader behind it; what was taken, of the numbers and the place behind them.
-pub bits_reader_next : Determined bits_reader.next.ended (λ _ _. bits_reader.next.clauses)
-bits_reader_next _ 𝓤 𝓛 _ _ _ _ _ _ _ _ _ _ =
-    one 𝓤 (λ p q. (
-      λ i. record {
-        number = alike p.number q.number i;
-        reader = record { run = alike p.same_run q.same_run i; at = record { 0 = alike p.behind q.behind i } };
-      },
-      refl,
-    ))
+pub bits_reader_BitReader_next : Determined bits_reader.BitReader.next.ended (λ _ _. bits_reader.BitReader.next.clauses)
+bits_reader_BitReader_next _ 𝓤 𝓛 _ _ _ _ _ _ _ _ _ _ =
+    three 𝓤 (λ p q. (alike p.0 q.0, λ i. (record { run = alike p.1.0 q.1.0 i; at = record { 0 = alike p.1.1 q.1.1 i } }, (tt, tt))))
 
-pub bits_reader_next_pair : Determined bits_reader.next_pair.ended (λ _ _. bits_reader.next_pair.clauses)
-bits_reader_next_pair _ 𝓤 𝓛 _ _ _ _ _ _ _ _ _ _ =
-    one 𝓤 (λ p q. (
-      λ i. record {
-        pair = record { first = alike p.first q.first i; second = alike p.second q.second i };
-        reader = record { run = alike p.same_run q.same_run i; at = record { 0 = alike p.behind q.behind i } };
-      },
-      refl,
-    ))
+pub bits_reader_BitReader_next_several : (K : RattleType) → Determined (bits_reader.BitReader.next_several.ended K) (λ _ _. bits_reader.BitReader.next_several.clauses K)
+bits_reader_BitReader_next_several K _ 𝓤 𝓛 _ _ _ _ _ _ _ _ _ _ =
+    three 𝓤 (λ p q. (alike p.0 q.0, λ i. (record { run = alike p.1.0 q.1.0 i; at = record { 0 = alike p.1.1 q.1.1 i } }, (tt, tt))))
 
-pub bits_reader_take : Determined bits_reader.take.ended (λ _ _. bits_reader.take.clauses)
-bits_reader_take _ 𝓤 𝓛 _ _ _ _ _ _ _ _ _ _ = one 𝓤 (λ p q. (λ i. record { number = alike p.0 q.0 i; next = record { 0 = alike p.1 q.1 i } }, refl))
-
-pub bits_reader_next_four : Determined bits_reader.next_four.ended (λ _ _. bits_reader.next_four.clauses)
-bits_reader_next_four _ 𝓤 𝓛 _ _ _ _ _ _ _ _ _ _ =
-    one 𝓤 (λ p q. (
-      λ i. record {
-        four = record { first = alike p.first q.first i; second = alike p.second q.second i; third = alike p.third q.third i; fourth = alike p.fourth q.fourth i };
-        reader = record { run = alike p.same_run q.same_run i; at = record { 0 = alike p.behind q.behind i } };
-      },
-      refl,
-    ))
-
-pub bits_reader_four_at : Determined bits_reader.four_at.ended (λ _ _. bits_reader.four_at.clauses)
-bits_reader_four_at _ 𝓤 𝓛 _ _ _ _ _ _ _ _ _ _ =
-    one 𝓤 (λ p q. (
-      λ i. record {
-        first = alike p.first q.first i;
-        second = alike p.second q.second i;
-        third = alike p.third q.third i;
-        fourth = alike p.fourth q.fourth i;
-        next = record { 0 = alike p.next q.next i };
-      },
-      refl,
-    ))
-
-pub bits_reader_take_four : Determined bits_reader.take_four.ended (λ _ _. bits_reader.take_four.clauses)
-bits_reader_take_four _ 𝓤 𝓛 _ _ _ _ _ _ _ _ _ _ =
-    one 𝓤 (λ p q. (
-      λ i. record {
-        first = alike p.first q.first i;
-        second = alike p.second q.second i;
-        third = alike p.third q.third i;
-        fourth = alike p.fourth q.fourth i;
-        next = record { 0 = alike p.next q.next i };
-      },
-      refl,
-    ))
+pub bits_reader_BitReader_next_four : Determined bits_reader.BitReader.next_four.ended (λ _ _. bits_reader.BitReader.next_four.clauses)
+bits_reader_BitReader_next_four _ 𝓤 𝓛 _ _ _ _ _ _ _ _ _ _ =
+    three 𝓤 (λ p q. (alike p.0 q.0, λ i. (record { run = alike p.1.0 q.1.0 i; at = record { 0 = alike p.1.1 q.1.1 i } }, (tt, tt))))
 
 -- Numbers and codes of refusals.
+pub refusals_Why_at : Determined refusals.Why.at.ended (λ _ _. refusals.Why.at.clauses)
+refusals_Why_at _ 𝓤 𝓛 _ _ _ _ _ _ _ _ _ _ = one 𝓤 (λ p q. (alike p q, refl))
+
 pub refusals_number_of : Determined refusals.number_of.ended (λ _ _. refusals.number_of.clauses)
 refusals_number_of _ 𝓤 𝓛 _ _ _ _ _ _ _ _ _ _ = one 𝓤 (λ p q. (alike p q, refl))
 
@@ -168,9 +133,9 @@ calendar_compare _ 𝓤 𝓛 _ _ _ _ _ _ _ _ _ _ = one 𝓤 (λ p q. (alike p q,
 pub calendar_digits : Determined calendar.digits.ended (λ _ _. calendar.digits.clauses)
 calendar_digits _ 𝓤 𝓛 _ _ _ _ _ _ _ _ _ _ = one 𝓤 (λ p q. (alike p q, refl))
 
--- Text that is put into a lent run: where it ends, and what the run holds afterwards.
-pub text_put : Determined text.put.ended (λ _ _. text.put.clauses)
-text_put _ 𝓤 𝓛 _ _ _ _ _ _ _ _ _ _ = one 𝓤 (λ p q. (alike p.1 q.1, λ i. (alike p.0 q.0 i, (tt, (tt, tt)))))
+-- Elements of any type and text that are put into a lent run: where they end, and what the run holds afterwards.
+pub text_put : (T : RattleType) (clones : Ghosts T.Denot) (d : Dict) → Determined (text.put.ended T clones d) (λ _ _. text.put.clauses T clones d)
+text_put T clones d _ 𝓤 𝓛 _ _ _ _ _ _ _ _ _ _ = one 𝓤 (λ p q. (alike p.1 q.1, λ i. (alike p.0 q.0 i, (tt, (tt, tt)))))
 
 pub text_put_decimal : Determined text.put_decimal.ended (λ _ _. text.put_decimal.clauses)
 text_put_decimal _ 𝓤 𝓛 _ _ _ _ _ _ _ _ _ _ = one 𝓤 (λ p q. (alike p.1 q.1, λ i. (alike p.0 q.0 i, (tt, (tt, tt)))))

@@ -1,6 +1,6 @@
 -- The contracts of the questions leave nothing open, refused calls included: what is answered, and what the lent runs hold afterwards.
 use mathlib.Core.Path.{refl}
-use Rattle.theorems_outcomes.specs.Determined.{Determined}
+use Rattle.theorems_outcomes.specs.Determined.{Determined, SeenDetermined}
 use Rattle.theorems_outcomes.proofs.Facts.{alike, one, two, three}
 use Rattle.question.specs.contracts as question
 use Rattle.question_numbers.specs.contracts as question_numbers
@@ -16,6 +16,16 @@ use Rattle.listing_file.proofs.Laws.{print_one}
 -- What is described, how a question is judged, and where a point is placed, in degrees and on the sheet.
 pub question_describe : Determined question.describe.ended (λ _ _. question.describe.clauses)
 question_describe _ 𝓤 𝓛 _ _ _ _ _ _ _ _ _ _ = one 𝓤 (λ p q. (alike p q, refl))
+
+-- What a field that is described has: its points, its packed integers and its bitmap. Of the last two it is the octets that are seen.
+pub question_DescribedField_points : Determined question.DescribedField.points.ended (λ _ _. question.DescribedField.points.clauses)
+question_DescribedField_points _ 𝓤 𝓛 _ _ _ _ _ _ _ _ _ _ = one 𝓤 (λ p q. (alike p.0 q.0, refl))
+
+pub question_DescribedField_packed : SeenDetermined question.DescribedField.packed.ended _ (λ _. (λ x. x.now)) (λ _ _. question.DescribedField.packed.clauses)
+question_DescribedField_packed _ 𝓤 𝓛 _ _ _ _ _ _ _ _ _ _ = one 𝓤 (λ p q. (alike p q, refl))
+
+pub question_DescribedField_bitmap : SeenDetermined question.DescribedField.bitmap.ended _ (λ _. (λ x. x.now)) (λ _ _. question.DescribedField.bitmap.clauses)
+question_DescribedField_bitmap _ 𝓤 𝓛 _ _ _ _ _ _ _ _ _ _ = one 𝓤 (λ p q. (alike p q, refl))
 
 pub question_judge_numbers : Determined question.judge_numbers.ended (λ _ _. question.judge_numbers.clauses)
 question_judge_numbers _ 𝓤 𝓛 _ _ _ _ _ _ _ _ _ _ = one 𝓤 (λ p q. (alike p q, refl))

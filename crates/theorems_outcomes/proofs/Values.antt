@@ -1,8 +1,11 @@
 -- The contracts about the values of a field leave nothing open: neither where writing ends, nor what the lent runs hold afterwards.
-use Prim.Native.Nat.{◌^◌, ◌<◌}
-use mathlib.Core.Path.{◌≡◌, refl}
-use Prim.Native.Nat.{ℕ}
+use Prim.Native.Nat.{◌^◌, ◌<◌, ℕ}
+use mathlib.Core.Path.{◌≡◌, refl, ap, ◌∙◌}
 use native.Mathlib.Omega.{arith}
+use denote.RattleType.{RattleType}
+use mir.Syntax.{Dict}
+use Rattle.std.specs.declared.clone.Clone as Clone
+use Rattle.std.specs.Prelude.{Option, Some}
 use Rattle.theorems_outcomes.specs.Determined.{Determined}
 use Rattle.theorems_outcomes.proofs.Facts.{alike, one, two}
 use Rattle.values_points.specs.contracts as values_points
@@ -14,9 +17,9 @@ use Rattle.values_greys.specs.contracts as values_greys
 use Rattle.values_picture.specs.contracts as values_picture
 use Rattle.values_points.proofs.Laws.{written_determined}
 use Rattle.values_points.proofs.Missing.{cleared_determined}
-use Rattle.values_group.specs.Group.{Gains}
-use Rattle.values_group.specs.declared.Worked as declared
-use Rattle.values_group.specs.declared.Worked.TheVariants as Worked
+use Rattle.values_group.specs.Group.{Gains, followed_by}
+use Rattle.values_group.specs.declared.Latest.{Latest}
+use Rattle.values_group.specs.declared.Becomes as Becomes
 
 -- The relations between a point, the next one and both runs leave nothing open.
 pub values_points_clear_missing : Determined values_points.clear_missing.ended (λ _ _. values_points.clear_missing.clauses)
@@ -39,8 +42,8 @@ pub values_points_rank_of : Determined values_points.rank_of.ended (λ _ _. valu
 values_points_rank_of _ 𝓤 𝓛 _ _ _ _ _ _ _ _ _ _ = one 𝓤 (λ p q. (alike p q, refl))
 
 -- Where integers are kept, the last two of them are told.
-kept_determined : {worked : declared.Worked} {x y before earlier : ℕ} → worked ≡ Worked.Kept x before → worked ≡ Worked.Kept y earlier → (x ≡ y) × (before ≡ earlier)
-kept_determined p q = (cc, cc)
+kept_determined : {worked : Option Latest} {x y : Latest} → worked ≡ Some x → worked ≡ Some y → x ≡ y
+kept_determined p q = cc
 
 -- What the integers of a group lead to leaves nothing open, and neither does what a block of them holds.
 pub values_group_judge : Determined values_group.judge.ended (λ _ _. values_group.judge.clauses)
@@ -48,9 +51,15 @@ values_group_judge _ 𝓤 𝓛 _ _ _ _ _ _ _ _ _ _ = one 𝓤 (λ p q. (alike p 
 
 pub values_group_unpack : Determined values_group.unpack.ended (λ _ _. values_group.unpack.clauses)
 values_group_unpack _ 𝓤 𝓛 _ _ _ _ _ _ _ _ _ _ =
-    two 𝓤 (λ p q.
-    let kept = kept_determined p.0 q.0 in
-    (λ i. record { x = kept.0 i; before = kept.1 i }, λ i. (tt, (tt, (tt, (alike p.1 q.1 i, (tt, tt)))))))
+    two 𝓤 (λ p q. (kept_determined p.0 q.0, λ i. (tt, (tt, (tt, (alike p.1 q.1 i, (tt, tt)))))))
+
+-- What is put of them leaves nothing open, whatever an integer becomes.
+pub values_group_put : (B : RattleType) (E : RattleType) (becomes : Becomes.Ghosts B.Denot E.Denot) (d : Dict) (copies : Clone.Ghosts B.Denot) (c : Dict) (elements : Clone.Ghosts E.Denot) (e : Dict) → Determined (values_group.put.ended B E becomes d copies c elements e) (λ _ _. values_group.put.clauses B E becomes d copies c elements e)
+values_group_put B E becomes d copies c elements e _ 𝓤 𝓛 _ _ _ _ _ _ _ _ _ _ =
+    two 𝓤 (λ p q. (kept_determined p.0 q.0, λ i. (tt, (tt, (tt, (tt, (alike p.1 q.1 i, tt)))))))
+
+pub values_group_behind : Determined values_group.behind.ended (λ _ _. values_group.behind.clauses)
+values_group_behind _ 𝓤 𝓛 _ _ _ _ _ _ _ _ _ _ = one 𝓤 (λ p q. (alike p q, refl))
 
 -- What the recurrence adds and gives, each in one number of the machine.
 gain_determined : {gain other base lowered : ℕ} → Gains gain base lowered × (gain < 2 ^ 64) → Gains other base lowered × (other < 2 ^ 64) → gain ≡ other
@@ -59,8 +68,8 @@ gain_determined p q = omega (arith, p.0.2, p.1, q.0.2, q.1)
 pub values_group_gain_of : Determined values_group.gain_of.ended (λ _ _. values_group.gain_of.clauses)
 values_group_gain_of _ 𝓤 𝓛 _ _ _ _ _ _ _ _ _ _ = two 𝓤 (λ p q. (gain_determined p q, refl))
 
-pub values_group_integer_behind : Determined values_group.integer_behind.ended (λ _ _. values_group.integer_behind.clauses)
-values_group_integer_behind _ 𝓤 𝓛 _ _ _ _ _ _ _ _ _ _ = one 𝓤 (λ p q. (alike p q, refl))
+pub values_group_Latest_next : Determined values_group.Latest.next.ended (λ _ _. values_group.Latest.next.clauses)
+values_group_Latest_next _ 𝓤 𝓛 _ _ _ a _ _ _ _ _ _ = one 𝓤 (λ p q. (alike p.value q.value, λ i. (alike p.last (q.last ∙ ap (λ (x : ℕ). followed_by x a.0.now) (alike q.value p.value)) i, (tt, (tt, tt)))))
 
 pub values_group_element : Determined values_group.element.ended (λ _ _. values_group.element.clauses)
 values_group_element _ 𝓤 𝓛 _ _ _ _ _ _ _ _ _ _ = one 𝓤 (λ p q. (alike p q, refl))
@@ -68,6 +77,9 @@ values_group_element _ 𝓤 𝓛 _ _ _ _ _ _ _ _ _ _ = one 𝓤 (λ p q. (alike 
 -- What a block holds of simple packing, one integer of it, and both runs of a field in it.
 pub values_simple_unpack : Determined values_simple.unpack.ended (λ _ _. values_simple.unpack.clauses)
 values_simple_unpack _ 𝓤 𝓛 _ _ _ _ _ _ _ _ _ _ = one 𝓤 (λ p q. (refl, λ i. (tt, (tt, (tt, (alike p q i, tt))))))
+
+pub values_simple_put : (B : RattleType) (E : RattleType) (becomes : Becomes.Ghosts B.Denot E.Denot) (d : Dict) (copies : Clone.Ghosts B.Denot) (c : Dict) (elements : Clone.Ghosts E.Denot) (e : Dict) → Determined (values_simple.put.ended B E becomes d copies c elements e) (λ _ _. values_simple.put.clauses B E becomes d copies c elements e)
+values_simple_put B E becomes d copies c elements e _ 𝓤 𝓛 _ _ _ _ _ _ _ _ _ _ = one 𝓤 (λ p q. (refl, λ i. (tt, (tt, (tt, (tt, (alike p q i, tt)))))))
 
 pub values_simple_integer_at : Determined values_simple.integer_at.ended (λ _ _. values_simple.integer_at.clauses)
 values_simple_integer_at _ 𝓤 𝓛 _ _ _ _ _ _ _ _ _ _ = one 𝓤 (λ p q. (alike p q, refl))
