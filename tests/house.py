@@ -96,7 +96,10 @@ def printed_places():
 
 
 def words_of(line, rattle):
-    return set(re.split(r'[\s(){}.;,@"«»:&\[\]]+' if rattle else r'[\s(){}.;,@"«»]+', line)) | {word for word in ('[]', '()') if word in line}
+    """The words of a line. In Rattle `&`, `<` and `>` stand between words, and in a clause they are words as well."""
+    plain = r'[\s(){}.;,@"«»:\[\]%s]+'
+    apart = [plain % '', plain % '&<>'] if rattle else [r'[\s(){}.;,@"«»]+']
+    return {word for at in apart for word in re.split(at, line)} | {word for word in ('[]', '()') if word in line}
 
 
 # The traits of std that are brought for their methods, which alone are said.
@@ -174,7 +177,8 @@ def code_stands_on_code():
 
 
 def public_functions():
-    """The public functions of the libraries, from every file of src/, as CRATE.FUNCTION or CRATE.MODULE.FUNCTION: the file and the contract of each."""
+    """The public functions of the libraries, from every file of src/, as CRATE.FUNCTION or CRATE.MODULE.FUNCTION, and the methods as CRATE.TYPE.METHOD: the
+    file and the contract of each."""
     found = {}
     for name in sources('.rt'):
         crate, folder, module = re.match(r'crates/([a-z0-9_]+)/(\w+)/(.*)\.rt$', name).groups()
@@ -238,18 +242,31 @@ def nothing_asked_of_users():
 
 
 # The functions whose answer is a part of the file, of which the octets are seen, and not where they lie: docs/DEMANDS.md, "Any two outcomes are equal".
-SEEN = {'section.octets_in': '_ (λ _. (λ x. x.now))', 'section_6.bitmap_in_force': '_ (λ _. (λ x. x.now))'}
+SEEN = dict.fromkeys(
+    ('section.FileSection.octets', 'section_6.bitmap_in_force', 'question.DescribedField.packed', 'question.DescribedField.bitmap'),
+    '_ (λ _. (λ x. x.now))',
+)
 
 
-def outcome_of(function):
-    """The one line by which crates/theorems_outcomes may state that a function's outcomes are determined."""
-    said = ('SeenDetermined %s.ended ' + SEEN[function] if function in SEEN else 'Determined %s.ended') % function
-    return 'pub %s : %s (λ _ _. %s.clauses)' % (function.replace('.', '_'), said, function)
+# The generic functions, with what their contracts are taken at: every type, all that the bound says of it, and every table of the functions that it has.
+COPIED = {'copies': 'Clone.Ghosts B.Denot', 'c': 'Dict', 'elements': 'Clone.Ghosts E.Denot', 'e': 'Dict'}
+BECOMES = {'B': 'RattleType', 'E': 'RattleType', 'becomes': 'Becomes.Ghosts B.Denot E.Denot', 'd': 'Dict', **COPIED}
+GENERIC = {'text.put': {'T': 'RattleType', 'clones': 'Ghosts T.Denot', 'd': 'Dict'}, 'values_group.put': BECOMES, 'values_simple.put': BECOMES}
+
+
+def outcome_of(function, contract):
+    """The one line by which crates/theorems_outcomes may state that a function's outcomes are determined, whatever its types and const parameters are."""
+    at = GENERIC.get(function) or {name: 'RattleType' for name in re.findall(r'\bconst (\w+):', contract[0])}
+    over = ' '.join('(%s : %s)' % each for each in at.items()) + ' → ' if at else ''
+    ended, clauses = (' '.join(['%s.%s' % (function, part), *at]) for part in ('ended', 'clauses'))
+    ended = '(%s)' % ended if at else ended
+    said = 'SeenDetermined %s %s' % (ended, SEEN[function]) if function in SEEN else 'Determined %s' % ended
+    return 'pub %s : %s%s (λ _ _. %s)' % (function.replace('.', '_'), over, said, clauses)
 
 
 def outcomes_are_determined():
     """Every public function of a library has its theorem in crates/theorems_outcomes, of its own contract and word for word, and there is no other."""
-    wanted = {outcome_of(function): name for function, (name, _) in public_functions().items()}
+    wanted = {outcome_of(function, contract): name for function, (name, contract) in public_functions().items()}
     for name in FILES:
         if not re.match(r'crates/theorems_outcomes/proofs/\w+\.antt$', name):
             continue
@@ -264,6 +281,8 @@ def outcomes_are_determined():
         for word in ('Determined', 'SeenDetermined'):
             if word in here.defined or (word in here.brought and here.brought[word] != ('theorems_outcomes/specs/Determined.antt', word)):
                 yield '%s: %s is not what it is called' % (name, word)
+        if any(': RattleType)' in line for line in here.lines) and 'use denote.RattleType.{RattleType}' not in here.lines:
+            yield '%s: RattleType is not that of the checker' % name
     for line, name in sorted(wanted.items()):
         yield '%s: no theorem: %s' % (name, line)
 
@@ -356,7 +375,7 @@ def demands_name_what_is_there():
     for edit in sorted(edits ^ named):
         yield 'docs: %s %s' % (edit, 'is not named' if edit in edits else 'is no edit')
     functions = {(function.split('.')[0], function.split('.')[-1]) for function in public_functions()}
-    for crate, function in sorted(set(re.findall(r'`([a-z0-9_]+)::(\w+)`', text)) - functions):
+    for crate, function in sorted(set(re.findall(r'`([a-z0-9_]+)::(?:[A-Z]\w*::)?(\w+)`', text)) - functions):
         if crate in listed():
             yield 'docs: no function %s::%s' % (crate, function)
     for names, file in re.findall(r'((?:`[^`]+`,? )+)\(([a-z0-9_]+/(?:specs|proofs)/\w+\.antt)\)', text):

@@ -28,10 +28,11 @@ PINNED = {
 # The function that the program `listing` calls for all that it prints: docs/DEMANDS.md lists the program, since this one asks for a run that is long enough.
 LISTING = 'listing_file::list'
 
-HEAD = re.compile(r'\s*(?:(?:abbrev|unfoldable) )?(?:pub )?(?:(?:record|data) )?([^\s():]+)(?: \([^)]*\)| \{[^}]*\})* :(?: |$)')
+HEAD = re.compile(r'\s*(?:(?:abbrev|unfoldable) )?(?:pub )?(?:(?:record|data) )?([^\s():]+)(?: \((?:[^()]|\([^()]*\))*\)| \{[^}]*\})* :(?: |$)')
 OPENS = re.compile(r'\s*(?:abbrev |unfoldable |pub |record |data )')
 FUNCTION = re.compile(r'\s*pub (?:extern "C" )?fn (\w+)')
 SHAPE = re.compile(r'\s*pub (?:struct|enum) (\w+)')
+METHODS = re.compile(r'impl(?:<[^>]*>)? (\w+)(?:<[^>]*>)? \{$')
 USE = re.compile(r'(?:ghost )?use Rattle\.(\w+)\.(specs|proofs)\.(.*?)(?:\.\{(.*)\})?(?: as (\S+?))?;?$')
 # The contracts of a crate's functions, which the checker makes of src/.
 CONTRACTS = re.compile(r'use Rattle\.(\w+)\.specs\.contracts as (\S+)$')
@@ -133,12 +134,14 @@ class File:
                 name = None
 
     def read_source(self):
-        """The contracts of the public functions, and the structs and enums."""
-        name = None
+        """The contracts of the public functions, and the structs and enums. A method goes by its type's name and its own."""
+        name, within = None, ''
         for number, line in enumerate(self.lines):
+            methods = METHODS.match(line)
+            within = methods.group(1) + '.' if methods else '' if line.startswith('}') else within
             head = FUNCTION.match(line) or SHAPE.match(line)
             if head:
-                name = head.group(1)
+                name = within + head.group(1)
                 self.define(name, number, None)
             elif name and line.strip() and not line.lstrip().startswith('{') and not is_comment(line):
                 self.defined[name].append(number)
