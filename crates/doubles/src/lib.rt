@@ -6,7 +6,7 @@ ghost use Rattle.std.specs.Float.{binary32};
 ghost use Rattle.std.specs.Float.Ieee.{of_bits};
 ghost use Rattle.std.specs.Float.Ieee.Scale.{finite};
 ghost use Rattle.octets.specs.Numbers.{whole};
-ghost use Rattle.doubles.specs.Doubles.{Scaled, power_of_two, power_of_ten, packing_of, rebuilt, is_rebuildable, not_rebuildable, rebuild_one};
+ghost use Rattle.doubles.specs.Doubles.{Scaled, power_of_two, power_of_ten, packing_of, rebuilt, is_rebuildable, rebuild_one};
 
 use octets::{FilePlace, Signed};
 use refusals::{Refusal, Why};
@@ -80,15 +80,6 @@ pub fn rebuild(p: Packing, x: u32) -> f64
     }
 }
 
-fn not_rebuildable() -> Refusal
-    ensures { result ≡ not_rebuildable }
-{
-    Refusal {
-        why: Why::NotRebuildable,
-        place: FilePlace(0),
-    }
-}
-
 // Can a double be rebuilt of these? R is finite, and the others are in their ranges. X has no sign, unless it is 0.
 fn is_rebuildable(r: u32, e: Signed, d: Signed, x: Signed) -> bool
     ensures { result ≡ is_rebuildable r e d x }
@@ -105,7 +96,7 @@ pub fn rebuild_one(r: u32, e: Signed, d: Signed, x: Signed) -> Result<f64, Refus
     ensures { result ≡ rebuild_one r e d x }
 {
     if !is_rebuildable(r, e, d, x) {
-        return Err(not_rebuildable());
+        return Err(Why::NotRebuildable.at(FilePlace(0)));
     }
     Ok(rebuild(packing_of(r, e, d), x.size as u32))
 }

@@ -88,13 +88,7 @@ pub fn list(run: &mut [u8], input: &[u8]) -> usize
     ensures { Puts run.old 0 (listing_of input.now) run.new result }
 {
     if 65536 < input.len() {
-        return put_refused(
-            run,
-            Refusal {
-                why: Why::InputTooLong,
-                place: FilePlace(65536),
-            },
-        );
+        return put_refused(run, Why::InputTooLong.at(FilePlace(65536)));
     }
     match tiling::check(input) {
         Ok(counts) => put_taken(run, input, counts.fields),

@@ -46,11 +46,9 @@ fn complex_at(section: FileSection) -> Option<Template>
 {
     let grouping = section_5_groups::grouping_at(section);
     let n = section.held(OctetNumber(6), OctetNumber(9)) as u32;
-    if section_5_groups::is_differenced(section) && section_5_groups::is_grouping(grouping, n) {
-        Some(Template::Complex(grouping))
-    } else {
-        None
-    }
+    let taken = section_5_groups::is_differenced(section)
+        && section_5_groups::is_grouping(grouping, n);
+    taken.then_some(Template::Complex(grouping))
 }
 
 // The data template, by the section's length and octets 10-11, where it is taken.

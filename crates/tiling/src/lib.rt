@@ -61,7 +61,7 @@ pub fn message_at(file: &[u8], at: FilePlace, k: usize) -> Result<Walked, Refusa
     requires { at.0 ≤ length file.now }
     ensures { result ≡ told k (message file.now at.0) }
 {
-    let end = header_at(file, at).map_err(|why| Refusal { why, place: at })?;
+    let end = header_at(file, at).map_err(|why| why.at(at))?;
     tiling_sections::fields_in(file, at, end, k)
 }
 
@@ -93,18 +93,11 @@ fn tile(file: &[u8], k: usize) -> Result<Tiled, Refusal>
 pub fn find(file: &[u8], k: usize) -> Result<Tiled, Refusal>
     ensures { (result ≡ find file.now k) × Lying file.now k result }
 {
-    let place = FilePlace(0);
     if 268_435_456 < file.len() {
-        return Err(Refusal {
-            why: Why::TooLong,
-            place,
-        });
+        return Err(Why::TooLong.at(FilePlace(0)));
     }
     if file.is_empty() {
-        return Err(Refusal {
-            why: Why::Empty,
-            place,
-        });
+        return Err(Why::Empty.at(FilePlace(0)));
     }
     tile(file, k)
 }

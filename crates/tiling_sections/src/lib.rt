@@ -175,7 +175,7 @@ pub fn fields_in(
     let mut after: u8 = 0;
     let mut count: usize = 0;
     loop {
-        let found = section_at(file, at, end, after).map_err(|why| Refusal { why, place: at })?;
+        let found = section_at(file, at, end, after).map_err(|why| why.at(at))?;
         let Some(Standing { number, next }) = found else {
             let next = FilePlace(end.0 + 4);
             return Ok(Walked { count, next, hit });

@@ -11,7 +11,7 @@ use octets::BitPlace;
 pub fn block_length(left: u64) -> usize
     ensures { result ≡ block_length left }
 {
-    if left < 56 { left as usize } else { 56 }
+    left.min(56) as usize
 }
 
 // Is a point present? Where the bitmap is empty, every one is.
@@ -19,7 +19,7 @@ pub fn is_present(bitmap: &[u8], point: usize) -> bool
     requires { Covers bitmap.now (point + 1) }
     ensures { result ≡ eqb ((marks_in bitmap.now).mark point) 1 }
 {
-    if bitmap.len() == 0 {
+    if bitmap.is_empty() {
         return true;
     }
     bits::bit_in(bitmap, BitPlace(point)) == 1
@@ -30,7 +30,7 @@ pub fn rank_of(bitmap: &[u8], point: usize) -> usize
     requires { Covers bitmap.now point }
     ensures { result ≡ (marks_in bitmap.now).rank point }
 {
-    if bitmap.len() == 0 {
+    if bitmap.is_empty() {
         return point;
     }
     bits_ones::ones_before(bitmap, point)
@@ -93,7 +93,7 @@ fn are_present(bitmap: &[u8], point: usize, n: usize) -> bool
     requires { (point ≤ 16777216) × (n ≤ 56) }
     ensures { result ≡ are_present bitmap.now point n }
 {
-    if bitmap.len() == 0 {
+    if bitmap.is_empty() {
         return true;
     }
     if point / 8 + 8 <= bitmap.len() {
