@@ -1,18 +1,16 @@
--- What is known of a field that is described: its numbers are within their limits, and its groups are sound. And the test for room.
+-- What is known of a field that is described: its numbers are within their limits, and its groups are sound.
 use mathlib.Core.Path.{◌≡◌, refl, sym, ap, subst, ◌∙◌}
-use mathlib.Core.Bool.{true, false}
+use mathlib.Core.Bool.{true}
 use mathlib.Core.List.{List}
 use Prim.Native.Nat.{ℕ, ◌+◌, ◌-◌, ◌*◌, ◌^◌, ◌≤◌, ◌<◌}
 use native.Mathlib.Nat.{lt_of_lt_of_le, mod-lt}
 use native.Mathlib.Omega.{arith}
-use borrow.Author.Tests.{leb-true, leb-false, le-leb, lt-leb}
-use lib.Dec.{leb}
+use borrow.Author.Tests.{le-leb}
 use lib.Pow.{pow_pos, pow_mono}
 use Rattle.octets.specs.Numbers.{top_bit}
-use Rattle.octets.proofs.Cases.{apart, split}
+use Rattle.octets.proofs.Cases.{apart}
 use Rattle.section.specs.Sections.{Lies, octets_in, held}
 use Rattle.doubles.specs.Doubles.{Scaled}
-use Rattle.refusals.specs.declared.Why.TheVariants as Why
 use Rattle.tiling_sections.specs.declared.Located.{Located}
 use Rattle.tiling_sections.specs.declared.Starts.{Starts}
 use Rattle.tiling_sections.specs.Laid.{Laid}
@@ -35,37 +33,11 @@ use Rattle.values_integers.proofs.Range.{in_range_all}
 use Rattle.values_complex.specs.Complex.{values_in, integer_in, Sound}
 use Rattle.question.specs.declared.Description.{Description}
 use Rattle.question.specs.Judged.{Judged}
-use Rattle.question.specs.Describe.{refused_at}
-use Rattle.question.specs.Judge.{Known, integer_of, is_decodable, has_room, values_asked}
+use Rattle.question.specs.Judge.{Known, integer_of, is_decodable}
 use Rattle.question.proofs.Laws.{FieldOf, described, described_laid, described_grid}
-use Rattle.std.specs.Prelude.{Some, Ok}
+use Rattle.std.specs.Prelude.{Some}
 use Rattle.octets.specs.declared.FilePlace.{FilePlace}
 use Rattle.question.specs.declared.DescribedField.{DescribedField}
-
--- There is no room where the points pass the end of one of the runs, and where the values have room the marks decide.
-module _ (start points values presence : ℕ) where
-  pub no_values : values < start + points → false ≡ has_room start points values presence
-  no_values h = rw (lt-leb (start + points) values h)
-
-  pub no_presence : presence < start + points → false ≡ has_room start points values presence
-  no_presence h = split (leb (start + points) values) (λ fits. rw (fits, lt-leb (start + points) presence h)) (λ fails. rw fails)
-
-  pub room_by_presence : start + points ≤ values → start ≤ presence → leb points (presence - start) ≡ has_room start points values presence
-  room_by_presence h g =
-      split (leb points (presence - start))
-      (λ fits. rw (fits, le-leb (start + points) values h, le-leb (start + points) presence (omega (arith, leb-true points (presence - start) fits))))
-      (λ fails. rw (fails, le-leb (start + points) values h, lt-leb (start + points) presence (omega (arith, leb-false points (presence - start) fails))))
-
--- What is answered where all values are asked.
-module _ (file : List ℕ) (start values presence : ℕ) (d : Description) where
-  pub asked_cramped : has_room start (points_of d.grid) values presence ≡ false → refused_at Why.NoRoom 0 ≡ values_asked file start values presence d
-  asked_cramped e = rw e
-
-  pub asked_outside : has_room start (points_of d.grid) values presence ≡ true → is_decodable file d ≡ false → refused_at Why.ValueOutOfRange d.starts.seven.0 ≡ values_asked file start values presence d
-  asked_outside room e = rw (room, e)
-
-  pub asked_given : has_room start (points_of d.grid) values presence ≡ true → is_decodable file d ≡ true → Ok d ≡ values_asked file start values presence d
-  asked_given room e = rw (room, e)
 
 -- The description that a field has is known.
 pub known_of : (f : DescribedField) → Known f.file.now f.description

@@ -1,8 +1,8 @@
 -- What is known of the answers of describe and judge: each section of a field that is described was taken, and a refusal names a place within the largest
 -- file that is taken.
-use mathlib.Core.Path.{◌≡◌, refl, sym, ap, subst, ◌∙◌}
+use mathlib.Core.Path.{◌≡◌, refl, sym, ap, subst}
 use mathlib.Core.List.{List}
-use mathlib.Core.Bool.{true, cond}
+use mathlib.Core.Bool.{true}
 use Prim.Native.Nat.{ℕ, ◌+◌, ◌≤◌, ◌<◌}
 use native.Mathlib.Omega.{arith}
 use borrow.Author.Tests.{leb-true, ltb-true, ltb-false}
@@ -11,21 +11,19 @@ use lib.ListN.{length, get_or}
 use Rattle.octets.proofs.Cases.{apart, split, both}
 use Rattle.section.specs.Sections.{Lies}
 use Rattle.refusals.specs.declared.Refusal.{Refusal}
-use Rattle.refusals.specs.declared.Why.TheVariants as Why
 use Rattle.tiling_sections.specs.declared.Located.{Located}
 use Rattle.tiling_sections.specs.Walk.{nowhere}
 use Rattle.tiling_sections.specs.Laid.{Laid}
-use Rattle.tiling.specs.Tiling.{largest, InFile, tiled, refused, tiling_of, found_in, find}
+use Rattle.tiling.specs.Tiling.{largest, InFile, tiled, refused, tiling_of}
 use Rattle.tiling.proofs.Bounds.{tiled_sound, field_laid, refused_placed}
 use Rattle.section_3_geometry.specs.Geometry.{points_of}
 use Rattle.section_3.proofs.Laws.{Passes, grid_passes, grid_few}
 use Rattle.question.specs.declared.Description.{Description}
 use Rattle.question.specs.Judged.{Judged}
-use Rattle.question.specs.Describe.{discipline_at, refused_at, described_at, field_in, describe}
+use Rattle.question.specs.Describe.{discipline_at, described_at, field_in, describe}
 use Rattle.question.specs.Judge.{Asks, has_room, is_decodable, description_length, asked_of, judge}
 use Rattle.question.proofs.Chain.{at_section_1, at_section_3, at_section_4, at_section_5, at_section_6, at_section_7}
 use Rattle.std.specs.Prelude.{Result, Ok, Err}
-use Rattle.tiling.specs.declared.Tiled.{Tiled}
 
 -- A refusal is no description, and an answer is one alone.
 pub no_description : {A : Type 0} {r : Refusal} {d : Description} → Err r ≡ Ok d → A
@@ -69,19 +67,7 @@ judged_described file l {d} j =
         ≡ d
     told discipline starts = rw (sym discipline, sym starts) refl
 
--- The answer of describe, by what find has found.
-abbrev pub field_by : List ℕ → ℕ → Result Tiled Refusal → Result Description Refusal
-field_by file k (Ok found) = cond (ltb k found.fields) (described_at file found.hit) (refused_at Why.NoSuchField 0)
-field_by file k (Err r) = Err r
-
-pub describe_found : (file : List ℕ) (k : ℕ) {f : Result Tiled Refusal} → f ≡ find file k → describe file k ≡ field_by file k f
-describe_found file k is = by (tiling_of file) ∙ ap (field_by file k) (sym is)
-  where
-    by : (o : InFile) → field_in file k o ≡ field_by file k (found_in k o)
-    by (tiled m fields) = refl
-    by (refused r) = refl
-
--- DescribedField k of a file that is tiled, and where it lies.
+-- Field k of a file that is tiled, and where it lies.
 pub record FieldOf (file : List ℕ) (k : ℕ) (l : Located) : Type 0 where
   pub messages : ℕ
   pub fields : List Located

@@ -19,8 +19,10 @@ use section_3_geometry::Grid;
 use section_4::ProductDefinition;
 use section_5::Representation;
 use section_6::Presence;
-use section_7::Data;
+use section_7::{Data, Groups};
 use tiling_sections::{Located, Starts};
+use values_complex::GroupedSection;
+use values_simple::NumberedSection;
 
 // All that is said of a field: the discipline from section 0, what sections 1, 3, 4 and 5 in force for it say, which of its points are present, what
 // section 7 holds, and where these sections start.
@@ -64,6 +66,27 @@ impl<'a> DescribedField<'a> {
         .octets()
     }
 
+    // These octets with how many bits each number has that is packed in them.
+    pub fn numbered(&self) -> NumberedSection<'a>
+        ensures { (result.section.now ≡ octets_in self.now.file.now self.now.description.starts.seven.0)
+            × (result.bits ≡ self.now.description.representation.bits) }
+    {
+        let section = self.packed();
+        let bits = self.description.representation.bits;
+        NumberedSection { section, bits }
+    }
+
+    // These octets with the groups that lie in them, where its packing is complex.
+    pub fn grouped(&self, groups: Groups) -> GroupedSection<'a>
+        requires { self.now.description.plan ≡ Data.Complex groups }
+        ensures { (result.section.now ≡ octets_in self.now.file.now self.now.description.starts.seven.0) × (result.groups ≡ groups) }
+    {
+        GroupedSection {
+            section: self.packed(),
+            groups,
+        }
+    }
+
     // The bitmap that tells which of its points are present: empty where all are.
     pub fn bitmap(&self) -> &'a [u8]
         ensures { result.now ≡ bitmap_in_force self.now.file.now self.now.description.presence (points_of self.now.description.grid) }
@@ -79,8 +102,7 @@ impl<'a> DescribedField<'a> {
             Data::Simple => true,
             Data::Complex(groups) => {
                 values_complex::is_in_range(
-                    self.packed(),
-                    groups,
+                    self.grouped(groups),
                     self.description.representation.n as u64,
                 )
             }

@@ -1,16 +1,13 @@
 -- What is known of a field that is judged, for its decoding: its rows of doubles and marks are those that the fillings write.
 use mathlib.Core.Path.{◌≡◌, refl, sym, ap, ap₂, ◌∙◌}
 use mathlib.Core.List.{List}
-use Prim.Native.Nat.{ℕ, ◌+◌, ◌-◌, ◌≤◌, ◌<◌}
+use Prim.Native.Nat.{ℕ, ◌+◌, ◌≤◌, ◌<◌}
 use native.Mathlib.Numerals.{add-one}
 use native.Mathlib.Omega.{arith}
 use lib.IntN.{nat_abs}
 use lib.ListN.{length}
-use lib.Ieee.{Float}
-use borrow.Rule.Slice.PartMut.{put_mid}
 use Rattle.bits.proofs.Laws.{bit_lt}
-use Rattle.laws_rows.specs.Rows.{laid}
-use Rattle.laws_rows.proofs.Laws.{row_length, row_same, part_laid}
+use Rattle.laws_rows.proofs.Laws.{row_same}
 use Rattle.section.specs.Sections.{octets_in}
 use Rattle.tiling.specs.Tiling.{largest}
 use Rattle.section_3_geometry.specs.Geometry.{points_of}
@@ -91,14 +88,6 @@ pub rank_among : (file : List ℕ) (d : Description) → Known file d → (i : �
 rank_among file d known i h mark =
     let ranked = field_ranked file d in
     omega (arith, packed_present file d known, ranked.more i, rank_mono (field_marks file d) ranked.more {i = i + 1} (points_of d.grid) (omega arith))
-
--- The field's stretch, lent on and given back, lies where it lay.
-module _ (file : List ℕ) (d : Description) (start end : ℕ) (points : end - start ≡ points_of d.grid) where
-  pub values_laid : (values stretch : List Float) → stretch ≡ doubles_of file d → put_mid start (end - start) values stretch ≡ laid values start (doubles_of file d)
-  values_laid values stretch e = part_laid start end values stretch (doubles_of file d) e (row_length (double_of file d) (points_of d.grid) ∙ sym points)
-
-  pub presence_laid : (presence stretch : List ℕ) → stretch ≡ marks_of file d → put_mid start (end - start) presence stretch ≡ laid presence start (marks_of file d)
-  presence_laid presence stretch e = part_laid start end presence stretch (marks_of file d) e (row_length (present_of file d) (points_of d.grid) ∙ sym points)
 
 -- An answer of decode: its point count is that of a grid that is taken, and a refusal is placed within the largest file that is taken.
 abbrev pub Small : Result ℕ Refusal → Type 0

@@ -1,5 +1,5 @@
 -- RULES, "From X to a double": the question decode. Integers and presence come first, and the doubles are made from them.
-use Rattle.std.specs.Prelude.{ℕ, ◌≡◌, true, List, nat_abs, length, Float, Result, Ok, Err}
+use Rattle.std.specs.Prelude.{ℕ, ◌≡◌, List, nat_abs, length, Float, Result, Ok, Err}
 use Rattle.laws_rows.specs.Rows.{row, laid}
 use Rattle.refusals.specs.declared.Refusal.{Refusal}
 use Rattle.doubles.specs.declared.Packing.{Packing}
@@ -9,7 +9,7 @@ use Rattle.section_5.specs.declared.Representation.{Representation}
 use Rattle.section_6.specs.Presence.{present_at, present_before}
 use Rattle.values_points.specs.Points.{double_at}
 use Rattle.question.specs.declared.Description.{Description}
-use Rattle.question.specs.Judge.{Asks, Known, integer_of, is_decodable, judge}
+use Rattle.question.specs.Judge.{Asks, integer_of, judge}
 
 -- The packing record by the numbers of section 5.
 abbrev pub packing_by : Representation → Packing
@@ -33,10 +33,6 @@ module _ (file : List ℕ) (d : Description) where
 
   abbrev pub marks_of : List ℕ
   marks_of = row present_of (points_of d.grid)
-
-  -- A description that describe has given of this file, and whose integers have been judged besides.
-  abbrev pub Decodable : Type 0
-  Decodable = Known file d × (is_decodable file d ≡ true)
 
 -- Two runs that have an element for each point of the field.
 abbrev pub Stretch : Description → List Float → List ℕ → Type 0

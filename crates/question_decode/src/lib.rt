@@ -34,23 +34,14 @@ fn fill(field: DescribedField, values: &mut [f64], presence: &mut [u8])
 {
     let representation = field.description.representation;
     let packing = packing_of(representation);
-    let section = field.packed();
     let bitmap = field.bitmap();
     match field.description.plan {
         Data::Simple => {
             let n = representation.n as u64;
-            values_simple::fill(
-                section,
-                bitmap,
-                representation.bits,
-                n,
-                packing,
-                values,
-                presence,
-            );
+            values_simple::fill(field.numbered(), bitmap, n, packing, values, presence);
         }
         Data::Complex(groups) => {
-            values_complex::fill(section, bitmap, groups, packing, values, presence);
+            values_complex::fill(field.grouped(groups), bitmap, packing, values, presence);
         }
     }
 }

@@ -10,7 +10,7 @@ use Rattle.section_4.specs.declared.ProductDefinition.{ProductDefinition}
 use Rattle.question.specs.declared.Description.{Description}
 use Rattle.question.specs.Judge.{description_length}
 use Rattle.std.specs.Prelude.{Option, Some, None}
-use Rattle.question_numbers.specs.Numbers.{degree_numbers, grid_numbers, lambert_numbers, level_numbers, product_numbers, definition_numbers, field_numbers, shared_numbers, numbers_of}
+use Rattle.question_numbers.specs.Numbers.{degree_numbers, lambert_numbers, level_numbers, product_numbers, definition_numbers, field_numbers, shared_numbers, numbers_of}
 
 -- Every level has three numbers, and every product eight.
 pub level_length : (level : Option Level) → length (level_numbers level) ≡ 3
@@ -25,9 +25,6 @@ product_length (Product.Interval end kind) = refl
 pub degrees_length : (g : Grid) → length (degree_numbers g) ≡ 6
 degrees_length (Grid.Degrees g) = refl
 degrees_length (Grid.Lambert g) = refl
-
-pub grid_length : (g : Grid) → length (grid_numbers g) ≡ 11
-grid_length g = simp length-append (omega (arith, degrees_length g))
 
 pub lambert_length_lem : (g : Grid) → 53 + length (lambert_numbers g) ≡ description_length g
 lambert_length_lem (Grid.Degrees g) = refl

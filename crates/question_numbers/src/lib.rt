@@ -1,7 +1,7 @@
 // A description and a place as rows of numbers with a sign, put into a run that is lent for them. It is how C is told what a field is.
 #![tactic(auto)]
 
-ghost use Rattle.std.specs.Prelude.{◌≡◌, ◌+◌, ◌≤◌, ◌<◌, pos, length};
+ghost use Rattle.std.specs.Prelude.{[], ◌∷◌, ◌≡◌, ◌+◌, ◌≤◌, ◌<◌, pos, length};
 ghost use Rattle.octets.specs.Numbers.{whole};
 ghost use Rattle.laws_rows.specs.Rows.{Puts};
 ghost use Rattle.section_3_geometry.specs.declared.Grid.TheVariants as Grid;
@@ -229,6 +229,15 @@ fn put_field(run: &mut [i64], description: Description) -> usize
     put_definition(run, definition, description.definition)
 }
 
+// Puts one number. Where a run of one element is copied, the compiler does not see that nothing of the lent run is read.
+fn put_one(run: &mut [i64], at: usize, number: i64) -> usize
+    requires { at + 1 ≤ length run.old }
+    ensures { Puts run.old at (number ∷ []) run.new result }
+{
+    run[at] = number;
+    at + 1
+}
+
 // Puts the numbers that every description has.
 fn put_shared(run: &mut [i64], description: Description) -> usize
     requires { (53 ≤ length run.old) × (Held description) }
@@ -240,7 +249,7 @@ fn put_shared(run: &mut [i64], description: Description) -> usize
         representation,
         &representation_numbers(description.representation),
     );
-    let starts = put(run, presence, &[indicator_of(description.presence)]);
+    let starts = put_one(run, presence, indicator_of(description.presence));
     put(run, starts, &start_numbers(description.starts))
 }
 

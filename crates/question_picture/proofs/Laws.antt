@@ -1,12 +1,12 @@
 -- The laws of a picture: its largest X is that of a point that is present, and no other is larger; and where its octets lie in the run that it was written into.
 use mathlib.Core.Path.{subst, ◌≡◌, refl, sym, ap, ap₂, subst, ◌∙◌}
-use mathlib.Core.Bool.{Bool, true, false, cond}
+use mathlib.Core.Bool.{Bool, true, cond}
 use mathlib.Core.List.{List, ◌++◌}
 use Prim.Native.Nat.{ℕ, zero, suc, ◌+◌, ◌-◌, ◌≤◌, ◌<◌}
 use native.Mathlib.Nat.{add-zero}
 use native.Mathlib.Numerals.{add-one}
 use native.Mathlib.Omega.{arith}
-use borrow.Author.Tests.{ltb-true, ltb-false, lt-ltb, le-ltb, leb-true}
+use borrow.Author.Tests.{ltb-true, ltb-false, le-ltb, leb-true}
 use lib.Dec.{ltb}
 use lib.IntN.{ℤ, pos, negsuc, nat_abs}
 use lib.ListN.{length, get_or, drop, length-append, get_or-append}
@@ -17,8 +17,6 @@ use Rattle.laws_rows.proofs.Laws.{row_length, row_same, row_at}
 use Rattle.laws_rows.proofs.Puts.{puts_then}
 use Rattle.values_largest.specs.Largest.{largest_from, largest_of, largest_in}
 use Rattle.values_largest.proofs.Laws.{largest_next, largest_same}
-use Rattle.refusals.specs.declared.Why.TheVariants as Why
-use Rattle.refusals.specs.Refusals.{refusal}
 use Rattle.text.specs.Text.{decimal}
 use Rattle.text.proofs.Laws.{decimal_short}
 use Rattle.tiling.specs.Tiling.{largest}
@@ -44,7 +42,7 @@ use Rattle.question.proofs.Laws.{describe_placed, seven_placed}
 use Rattle.question.proofs.Known.{bitmap, bitmap_lies, located, judged, few_points, packed_present, simple_decodable, groups_values, groups_decodable}
 use Rattle.question_decode.specs.Decoding.{present_of, rank_of}
 use Rattle.question_decode.proofs.Laws.{simple_size, groups_size, field_ranked, rank_among}
-use Rattle.question_picture.specs.Picture.{counting, largest_present, greys_of, header, picture_length, point_integer, picture_of, gives, refuses, picture_asked, drawing_by, pictured_by, pictured, LargestOf}
+use Rattle.question_picture.specs.Picture.{counting, largest_present, greys_of, header, picture_length, point_integer, picture_of, gives, picture_asked, drawing_by, pictured_by, pictured, LargestOf}
 use Rattle.std.specs.Prelude.{max, Option, Some, None, Result, Ok, Err}
 use Rattle.refusals.specs.declared.Refusal.{Refusal}
 
@@ -215,7 +213,7 @@ short_sizes file d known =
     let count = grid_counted file (located file d known).0.starts.three.0 (judged file d known).of_three in
     (count.columns65535, count.rows65535)
 
--- How long the lines are. They are short. The answer for a run of this length: 15, 16, or the picture.
+-- How long the lines are. They are short.
 pub header_long : (f : Frame) → length (header f) ≡ 9 + length (decimal f.ni) + length (decimal f.nj)
 header_long f = simp length-append (omega arith)
 
@@ -223,18 +221,8 @@ pub header_short : (f : Frame) → length (header f) ≤ 49
 header_short f = simp length-append (omega (arith, decimal_short f.ni, decimal_short f.nj))
 
 module _ (file : List ℕ) (room : ℕ) (d : Description) where
-  pub asked_cramped : room < picture_length (frame_of d.grid) → refuses (refusal Why.NoRoom 0) ≡ picture_asked file room d
-  asked_cramped less = rw (lt-ltb room (picture_length (frame_of d.grid)) less)
-
-  pub asked_outside : picture_length (frame_of d.grid) ≤ room → is_decodable file d ≡ false → refuses (refusal Why.ValueOutOfRange d.starts.seven.0) ≡ picture_asked file room d
-  asked_outside fits fails = rw (le-ltb room (picture_length (frame_of d.grid)) fits, fails)
-
   pub asked_drawn : picture_length (frame_of d.grid) ≤ room → is_decodable file d ≡ true → gives (picture_length (frame_of d.grid)) (picture_of file d) ≡ picture_asked file room d
   asked_drawn fits all = rw (le-ltb room (picture_length (frame_of d.grid)) fits, all)
-
-  -- Where no largest integer is told, one is out of its range.
-  pub none_largest : None ≡ largest_in (integer_of file d) d.representation.n → is_decodable file d ≡ false
-  none_largest told = split (is_decodable file d) (λ all. let some = rw all at told in apart cc) (λ fails. fails)
 
 -- Greys that are laid behind the lines: both are laid as one.
 pub laid_drawn : {A : Type 0} (run lines greys : List A) {first : ℕ} {put painted : List A} → length lines + length greys ≤ length run → Puts run 0 lines put first → painted ≡ laid put first greys →

@@ -36,18 +36,16 @@ fn put_header(run: &mut [u8], frame: Frame) -> usize
     text::put(run, rows, b"\n255\n")
 }
 
-// The largest integer of a field, which is the largest at a point that is present, or that one is out of its range.
+// The largest integer of a field, which is the largest at a point that is present; or none, where one is out of its range.
 fn largest_of(field: DescribedField) -> Option<u32>
     ensures { result ≡ largest_in (integer_of field.entry.file.now field.entry.description) field.entry.description.representation.n }
 {
-    let representation = field.description.representation;
-    let section = field.packed();
     match field.description.plan {
         Data::Simple => {
-            let n = representation.n as u64;
-            Some(values_largest::of_simple(section, representation.bits, n))
+            let n = field.description.representation.n as u64;
+            Some(values_largest::of_simple(field.numbered(), n))
         }
-        Data::Complex(groups) => values_largest::of_complex(section, groups),
+        Data::Complex(groups) => values_largest::of_complex(field.grouped(groups)),
     }
 }
 
@@ -57,18 +55,15 @@ fn paint(field: DescribedField, largest: u32, stretch: &mut [u8])
     ensures { stretch.new ≡ greys_of (present_of field.entry.file.now field.entry.description)
         (point_integer field.entry.file.now field.entry.description) (points_of field.entry.description.grid) }
 {
-    let representation = field.description.representation;
-    let n = representation.n as u64;
+    let n = field.description.representation.n as u64;
     let scale = greys::scale_of(largest);
-    let section = field.packed();
     let bitmap = field.bitmap();
     match field.description.plan {
         Data::Simple => {
-            let bits = representation.bits;
-            values_picture::paint_simple(section, bitmap, bits, n, scale, stretch);
+            values_picture::paint_simple(field.numbered(), bitmap, n, scale, stretch);
         }
         Data::Complex(groups) => {
-            values_picture::paint_complex(section, bitmap, groups, n, scale, stretch);
+            values_picture::paint_complex(field.grouped(groups), bitmap, n, scale, stretch);
         }
     }
 }

@@ -19,12 +19,9 @@ fn integer_of(field: DescribedField, m: u64) -> Option<u32>
     requires { m < field.description.representation.n }
     ensures { result ≡ single_of (integer_of field.entry.file.now field.entry.description) m }
 {
-    let section = field.packed();
     match field.description.plan {
-        Data::Simple => {
-            Some(values_simple::integer_at(section, field.description.representation.bits, m))
-        }
-        Data::Complex(groups) => values_complex::integer_at(section, groups, m),
+        Data::Simple => Some(values_simple::integer_at(field.numbered(), m)),
+        Data::Complex(groups) => values_complex::integer_at(field.grouped(groups), m),
     }
 }
 

@@ -14,6 +14,14 @@ use octets::{BitPlace, Signed};
 use section_7::Groups;
 use values_group::{Group, Latest};
 
+// Section 7 of a field in complex packing: its octets, and what is known of its groups, which are sound.
+#[derive(Clone, Copy)]
+pub struct GroupedSection<'a> {
+    pub section: &'a [u8],
+    pub groups: Groups,
+    ghost sound: { Sound section.now groups },
+}
+
 // Where a group starts: how many values stand before it, and the place of its first bit.
 #[derive(Clone, Copy)]
 pub struct Start {
@@ -53,21 +61,18 @@ fn lowered_by(zmin: Signed) -> u64
 fn skipped(values: u64, length: u64) -> u64
     ensures { result ≡ skipped values length }
 {
-    if 2 <= values {
-        return 0;
-    }
-    if length < 2 - values {
-        return length;
-    }
-    2 - values
+    length.min(2u64.saturating_sub(values))
 }
 
-// Group i, which starts at `start`.
-pub fn group_at(section: &[u8], groups: Groups, i: u32, start: Start) -> Met
-    requires sound { (Sound section.now groups) × (i < groups.grouping.groups) }
-    requires start_value { start ≡ start_of section.now groups i }
-    ensures { (result.group ≡ group_at section.now groups i) × (result.next ≡ start_of section.now groups (i + 1)) }
+// Group i, which starts at `start`. The section and its groups are lent: handed on by value they are copied for each group, and decode takes a twelfth longer.
+pub fn group_at(grouped: &GroupedSection, i: u32, start: Start) -> Met
+    requires within { i < grouped.now.groups.grouping.groups }
+    requires start_value { start ≡ start_of grouped.now.section.now grouped.now.groups i }
+    ensures { (result.group ≡ group_at grouped.now.section.now grouped.now.groups i)
+        × (result.next ≡ start_of grouped.now.section.now grouped.now.groups (i + 1)) }
 {
+    let section = grouped.section;
+    let groups = grouped.groups;
     let layout = groups.layout;
     let grouping = groups.grouping;
     let differencing = groups.differencing;
@@ -98,24 +103,19 @@ fn first_of(group: Group, most: u64) -> Group
     ensures { result ≡ first_of group most }
 {
     Group {
-        from: group.from,
-        width: group.width,
-        base: group.base,
-        lowered: group.lowered,
-        count: if most < group.count {
-            most
-        } else {
-            group.count
-        },
+        count: group.count.min(most),
+        ..group
     }
 }
 
 // Works out so many integers behind the second, group by group, and stops at one that is out of its range. It writes nothing, and looks at nothing behind them.
-fn worked_to(section: &[u8], groups: Groups, wanted: u64) -> Option<Latest>
-    requires sound { (Sound section.now groups) × (wanted + 2 ≤ values_in section.now groups) }
-    requires first_bound { (groups.differencing.first ≤ 2147483647) × (groups.differencing.second ≤ 2147483647) }
-    ensures { result ≡ worked_in section.now groups wanted }
+fn worked_to(grouped: GroupedSection, wanted: u64) -> Option<Latest>
+    requires wanted_bound { wanted + 2 ≤ values_in grouped.section.now grouped.groups }
+    requires first_bound { (grouped.groups.differencing.first ≤ 2147483647) × (grouped.groups.differencing.second ≤ 2147483647) }
+    ensures { result ≡ worked_in grouped.entry.section.now grouped.entry.groups wanted }
 {
+    let section = grouped.section;
+    let groups = grouped.groups;
     let layout = groups.layout;
     let differencing = groups.differencing;
     let x = differencing.second as u64;
@@ -126,7 +126,7 @@ fn worked_to(section: &[u8], groups: Groups, wanted: u64) -> Option<Latest>
     let mut i: u32 = 0;
     let mut left = wanted;
     while 0 < left {
-        let met = group_at(section, groups, i, start);
+        let met = group_at(&grouped, i, start);
         let group = first_of(met.group, left);
         latest = values_group::judge(section, group, latest)?;
         start = met.next;
@@ -137,26 +137,26 @@ fn worked_to(section: &[u8], groups: Groups, wanted: u64) -> Option<Latest>
 }
 
 // Is every integer X of the field from 0 to 2,147,483,647? There are n of them.
-pub fn is_in_range(section: &[u8], groups: Groups, n: u64) -> bool
-    requires { (Sound section.now groups) × (n ≡ values_in section.now groups) }
-    ensures { result ≡ are_in_range (integer_in section.now groups) n }
+pub fn is_in_range(grouped: GroupedSection, n: u64) -> bool
+    requires { n ≡ values_in grouped.section.now grouped.groups }
+    ensures { result ≡ are_in_range (integer_in grouped.entry.section.now grouped.entry.groups) n }
 {
-    let differencing = groups.differencing;
+    let differencing = grouped.groups.differencing;
     if 2147483647 < differencing.first {
         return false;
     }
     if 2147483647 < differencing.second {
         return false;
     }
-    worked_to(section, groups, n - 2).is_some()
+    worked_to(grouped, n - 2).is_some()
 }
 
 // The integer numbered m of the field, where none up to it is out of its range. Those behind it are not looked at: for the first, the second is not.
-pub fn integer_at(section: &[u8], groups: Groups, m: u64) -> Option<u32>
-    requires { (Sound section.now groups) × (m < values_in section.now groups) }
-    ensures { result ≡ single_of (integer_in section.now groups) m }
+pub fn integer_at(grouped: GroupedSection, m: u64) -> Option<u32>
+    requires { m < values_in grouped.section.now grouped.groups }
+    ensures { result ≡ single_of (integer_in grouped.entry.section.now grouped.entry.groups) m }
 {
-    let differencing = groups.differencing;
+    let differencing = grouped.groups.differencing;
     if 2147483647 < differencing.first {
         return None;
     }
@@ -166,7 +166,7 @@ pub fn integer_at(section: &[u8], groups: Groups, m: u64) -> Option<u32>
     if 2147483647 < differencing.second {
         return None;
     }
-    let latest = worked_to(section, groups, m - 1)?;
+    let latest = worked_to(grouped, m - 1)?;
     Some(latest.x as u32)
 }
 
@@ -202,19 +202,19 @@ fn write_group(
 
 // Fills the runs for a field: the first two integers, and then group by group.
 pub fn fill(
-    section: &[u8],
+    grouped: GroupedSection,
     bitmap: &[u8],
-    groups: Groups,
     packing: Packing,
     values: &mut [f64],
     presence: &mut [u8],
 )
-    requires sound { Sound section.now groups }
-    requires all_in_range { AllInRange section.now groups }
+    requires all_in_range { AllInRange grouped.section.now grouped.groups }
     requires room { Room bitmap.now values.old presence.old }
-    requires groups_value { values_in section.now groups ≡ (marks_in bitmap.now).rank (length values.old) }
-    ensures { Filled (marks_in bitmap.now) packing (size_in section.now groups) (lent values presence) (left values presence) }
+    requires groups_value { values_in grouped.section.now grouped.groups ≡ (marks_in bitmap.now).rank (length values.old) }
+    ensures { Filled (marks_in bitmap.now) packing (size_in grouped.entry.section.now grouped.entry.groups) (lent values presence) (left values presence) }
 {
+    let section = grouped.section;
+    let groups = grouped.groups;
     let layout = groups.layout;
     let grouping = groups.grouping;
     let differencing = groups.differencing;
@@ -229,7 +229,7 @@ pub fn fill(
     let bit = octets::first_bit(layout.packed);
     let mut start = Start { values: 0, bit };
     for i in 0..grouping.groups {
-        let met = group_at(section, groups, i, start);
+        let met = group_at(&grouped, i, start);
         let group = met.group;
         reached = write_group(
             section, bitmap, group, packing, &mut block, values, presence, reached,

@@ -5,13 +5,13 @@ ghost use Rattle.std.specs.Prelude.{◌≡◌, ◌≤◌, length};
 ghost use Rattle.laws_rows.specs.Rows.{row};
 ghost use Rattle.greys.specs.Greys.{grey_of, ScaledTo, Below};
 ghost use Rattle.values_integers.specs.Integers.{simple_integer};
-ghost use Rattle.values_complex.specs.Complex.{values_in, size_in, AllInRange, Sound};
+ghost use Rattle.values_complex.specs.Complex.{values_in, size_in, AllInRange};
 ghost use Rattle.values_greys.specs.Packed.{packed_grey};
 
 use greys::Scale;
-use section_7::Groups;
-use values_complex::Start;
+use values_complex::{GroupedSection, Start};
 use values_group::{Becomes, Latest};
+use values_simple::NumberedSection;
 
 // An integer becomes its grey by a scale.
 #[derive(Clone, Copy)]
@@ -44,24 +44,27 @@ fn put_ones(greys: &mut [u8])
 }
 
 // Puts the greys of a field's integers in simple packing.
-pub fn put_simple(section: &[u8], bits: u32, scale: Scale, greys: &mut [u8])
-    requires bits_bound { (bits ≤ 31) × (length greys.old ≤ 16777216) }
-    requires scaled_to { (ScaledTo scale) × (Below scale (simple_integer section.now bits) (length greys.old)) }
-    ensures { greys.new ≡ row (packed_grey scale (simple_integer section.now bits)) (length greys.old) }
+pub fn put_simple(numbered: NumberedSection, scale: Scale, greys: &mut [u8])
+    requires greys_len_bound { length greys.old ≤ 16777216 }
+    requires scaled_to { (ScaledTo scale) × (Below scale (simple_integer numbered.section.now numbered.bits) (length greys.old)) }
+    ensures { greys.new ≡ row (packed_grey scale (simple_integer numbered.entry.section.now numbered.entry.bits)) (length greys.old) }
 {
-    if bits == 0 {
+    if numbered.bits == 0 {
         put_ones(greys);
         return;
     }
-    values_simple::put(section, bits, 0, Grey { scale }, greys);
+    values_simple::put(numbered, 0, Grey { scale }, greys);
 }
 
 // Puts the greys of a field's integers in complex packing: of the first two, and then group by group.
-pub fn put_complex(section: &[u8], groups: Groups, scale: Scale, greys: &mut [u8])
-    requires sound { (Sound section.now groups) × (AllInRange section.now groups) × (length greys.old ≡ values_in section.now groups) }
-    requires scaled_to { (ScaledTo scale) × (Below scale (size_in section.now groups) (values_in section.now groups)) }
-    ensures { greys.new ≡ row (packed_grey scale (size_in section.now groups)) (length greys.old) }
+pub fn put_complex(grouped: GroupedSection, scale: Scale, greys: &mut [u8])
+    requires all_in_range { AllInRange grouped.section.now grouped.groups }
+    requires greys_value { length greys.old ≡ values_in grouped.section.now grouped.groups }
+    requires scaled_to { (ScaledTo scale) × (Below scale (size_in grouped.section.now grouped.groups) (values_in grouped.section.now grouped.groups)) }
+    ensures { greys.new ≡ row (packed_grey scale (size_in grouped.entry.section.now grouped.entry.groups)) (length greys.old) }
 {
+    let section = grouped.section;
+    let groups = grouped.groups;
     let layout = groups.layout;
     let grouping = groups.grouping;
     let differencing = groups.differencing;
@@ -75,7 +78,7 @@ pub fn put_complex(section: &[u8], groups: Groups, scale: Scale, greys: &mut [u8
     let grey = Grey { scale };
     let mut done: usize = 2;
     for i in 0..grouping.groups {
-        let met = values_complex::group_at(section, groups, i, start);
+        let met = values_complex::group_at(&grouped, i, start);
         let group = met.group;
         let end = done + group.count as usize;
         latest = values_group::put(section, group, latest, grey, &mut greys[done..end]);

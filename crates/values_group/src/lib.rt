@@ -79,10 +79,8 @@ pub fn behind(group: Group, done: u64) -> Group
 {
     Group {
         from: BitPlace(group.from.0 + done as usize * group.width as usize),
-        width: group.width,
-        base: group.base,
-        lowered: group.lowered,
         count: group.count - done,
+        ..group
     }
 }
 

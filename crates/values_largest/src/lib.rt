@@ -6,15 +6,15 @@ ghost use Rattle.std.specs.Prelude.{◌≡◌, ◌*◌, ◌≤◌, length};
 ghost use Rattle.bits.specs.Fours.{Foured};
 ghost use Rattle.values_integers.specs.Integers.{simple_integer};
 ghost use Rattle.values_group.specs.Group.{most_x, Limits};
-ghost use Rattle.values_complex.specs.Complex.{values_in, integer_in, Sound};
+ghost use Rattle.values_complex.specs.Complex.{values_in, integer_in};
 ghost use Rattle.values_simple.specs.Simple.{Windowed};
 ghost use Rattle.values_largest.specs.Largest.{largest_of, largest_in, seen_by};
 
 use bits_reader::BitReader;
 use octets::{BitPlace, OctetNumber};
-use section_7::Groups;
-use values_complex::Start;
+use values_complex::{GroupedSection, Start};
 use values_group::{Group, Latest};
+use values_simple::NumberedSection;
 
 // The last two integers, and the largest so far.
 #[derive(Clone, Copy)]
@@ -40,10 +40,12 @@ fn in_fours(section: &[u8], bits: u32, n: u64, fours: u64) -> u64
 }
 
 // The largest of a field's n integers in simple packing: the first of them four at a time, and the others one by one.
-pub fn of_simple(section: &[u8], bits: u32, n: u64) -> u32
-    requires { (bits ≤ 31) × (n ≤ 16777216) }
-    ensures { result ≡ largest_of (simple_integer section.now bits) n }
+pub fn of_simple(numbered: NumberedSection, n: u64) -> u32
+    requires { n ≤ 16777216 }
+    ensures { result ≡ largest_of (simple_integer numbered.entry.section.now numbered.entry.bits) n }
 {
+    let section = numbered.section;
+    let bits = numbered.bits;
     let first = octets::first_bit(OctetNumber(6));
     let fours = values_simple::window_fours(section, bits, n);
     let mut largest = in_fours(section, bits, n, fours);
@@ -113,10 +115,12 @@ fn in_group(section: &[u8], group: Group, seen: Seen) -> Option<Seen>
 }
 
 // The largest of a field's integers in complex packing, group by group, where none is out of its range.
-pub fn of_complex(section: &[u8], groups: Groups) -> Option<u32>
-    requires { Sound section.now groups }
-    ensures { result ≡ largest_in (integer_in section.now groups) (values_in section.now groups) }
+pub fn of_complex(grouped: GroupedSection) -> Option<u32>
+    ensures { result ≡ largest_in (integer_in grouped.entry.section.now grouped.entry.groups)
+        (values_in grouped.entry.section.now grouped.entry.groups) }
 {
+    let section = grouped.section;
+    let groups = grouped.groups;
     let layout = groups.layout;
     let grouping = groups.grouping;
     let differencing = groups.differencing;
@@ -135,7 +139,7 @@ pub fn of_complex(section: &[u8], groups: Groups) -> Option<u32>
     let bit = octets::first_bit(layout.packed);
     let mut start = Start { values: 0, bit };
     for i in 0..grouping.groups {
-        let met = values_complex::group_at(section, groups, i, start);
+        let met = values_complex::group_at(&grouped, i, start);
         seen = in_group(section, met.group, seen)?;
         start = met.next;
     }

@@ -7,11 +7,12 @@ ghost use Rattle.laws_rows.specs.Rows.{row};
 ghost use Rattle.greys.specs.Greys.{ScaledTo, Below};
 ghost use Rattle.values_points.specs.Written.{marks_in, Covers};
 ghost use Rattle.values_integers.specs.Integers.{simple_integer};
-ghost use Rattle.values_complex.specs.Complex.{values_in, size_in, AllInRange, Sound};
+ghost use Rattle.values_complex.specs.Complex.{values_in, size_in, AllInRange};
 ghost use Rattle.values_picture.specs.Painted.{grey_at, given_at, Canvas};
 
 use greys::Scale;
-use section_7::Groups;
+use values_complex::GroupedSection;
+use values_simple::NumberedSection;
 
 // Moves the greys from `from` on to the points that are present, and writes 0 to those that are missing. Where no missing point is left, the greys behind lie
 // at their points. A loop over the places, `for i in 0..greys.len()`, which ends there, takes a sixth longer over a bitmap.
@@ -36,41 +37,34 @@ fn spread(bitmap: &[u8], greys: &mut [u8], from: usize)
 
 // Paints the points of a field in simple packing, which has n integers.
 pub fn paint_simple(
-    section: &[u8],
+    numbered: NumberedSection,
     bitmap: &[u8],
-    bits: u32,
     n: u64,
     scale: Scale,
     greys: &mut [u8],
 )
-    requires bits_bound { (bits ≤ 31) × (Canvas bitmap.now (length greys.old) n) }
-    requires scaled_to { (ScaledTo scale) × (Below scale (simple_integer section.now bits) n) }
-    ensures { greys.new ≡ row (grey_at (marks_in bitmap.now) scale (simple_integer section.now bits))
+    requires canvas { Canvas bitmap.now (length greys.old) n }
+    requires scaled_to { (ScaledTo scale) × (Below scale (simple_integer numbered.section.now numbered.bits) n) }
+    ensures { greys.new ≡ row (grey_at (marks_in bitmap.now) scale (simple_integer numbered.entry.section.now numbered.entry.bits))
         (length greys.old) }
 {
     let end = greys.len();
     let from = end - n as usize;
-    values_greys::put_simple(section, bits, scale, &mut greys[from..end]);
+    values_greys::put_simple(numbered, scale, &mut greys[from..end]);
     spread(bitmap, greys, from);
 }
 
 // Paints the points of a field in complex packing, which has n integers.
-pub fn paint_complex(
-    section: &[u8],
-    bitmap: &[u8],
-    groups: Groups,
-    n: u64,
-    scale: Scale,
-    greys: &mut [u8],
-)
-    requires sound { (Sound section.now groups) × (AllInRange section.now groups) × (n ≡ values_in section.now groups)
-        × (Canvas bitmap.now (length greys.old) n) }
-    requires scaled_to { (ScaledTo scale) × (Below scale (size_in section.now groups) n) }
-    ensures { greys.new ≡ row (grey_at (marks_in bitmap.now) scale (size_in section.now groups))
+pub fn paint_complex(grouped: GroupedSection, bitmap: &[u8], n: u64, scale: Scale, greys: &mut [u8])
+    requires all_in_range { AllInRange grouped.section.now grouped.groups }
+    requires n_value { n ≡ values_in grouped.section.now grouped.groups }
+    requires canvas { Canvas bitmap.now (length greys.old) n }
+    requires scaled_to { (ScaledTo scale) × (Below scale (size_in grouped.section.now grouped.groups) n) }
+    ensures { greys.new ≡ row (grey_at (marks_in bitmap.now) scale (size_in grouped.entry.section.now grouped.entry.groups))
         (length greys.old) }
 {
     let end = greys.len();
     let from = end - n as usize;
-    values_greys::put_complex(section, groups, scale, &mut greys[from..end]);
+    values_greys::put_complex(grouped, scale, &mut greys[from..end]);
     spread(bitmap, greys, from);
 }

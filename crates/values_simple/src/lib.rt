@@ -13,11 +13,21 @@ use doubles::Packing;
 use octets::{BitPlace, OctetNumber};
 use values_group::{Becomes, Itself};
 
+// Section 7 of a field in simple packing: its octets, and how many bits each number has, at most 31.
+#[derive(Clone, Copy)]
+pub struct NumberedSection<'a> {
+    pub section: &'a [u8],
+    pub bits: u32,
+    ghost fits: { bits ≤ 31 },
+}
+
 // The integer numbered m of the field.
-pub fn integer_at(section: &[u8], bits: u32, m: u64) -> u32
-    requires { (bits ≤ 31) × (m ≤ 16777216) }
-    ensures { result ≡ simple_integer section.now bits m }
+pub fn integer_at(numbered: NumberedSection, m: u64) -> u32
+    requires { m ≤ 16777216 }
+    ensures { result ≡ simple_integer numbered.entry.section.now numbered.entry.bits m }
 {
+    let section = numbered.section;
+    let bits = numbered.bits;
     let first = octets::first_bit(OctetNumber(6));
     bits::read_bits(
         section,
@@ -83,11 +93,13 @@ fn put_fours<B: Becomes>(
 }
 
 // Puts integers, from number `done` of the field on, one into each element of a lent run: four at a time, and what is left one by one.
-pub fn put<B: Becomes>(section: &[u8], bits: u32, done: u64, sink: B, run: &mut [B::Element])
-    requires limits { (bits ≤ 31) × (done ≤ 16777216) × (length run.old ≤ 16777216) }
-    requires taken { (k : ℕ) → suc k ≤ length run.old → B.takes sink (integers_behind section.now bits done k) }
-    ensures { run.new ≡ row (λ k. B.becomes sink (integers_behind section.now bits done k)) (length run.old) }
+pub fn put<B: Becomes>(numbered: NumberedSection, done: u64, sink: B, run: &mut [B::Element])
+    requires limits { (done ≤ 16777216) × (length run.old ≤ 16777216) }
+    requires taken { (k : ℕ) → suc k ≤ length run.old → B.takes sink (integers_behind numbered.section.now numbered.bits done k) }
+    ensures { run.new ≡ row (λ k. B.becomes sink (integers_behind numbered.entry.section.now numbered.entry.bits done k)) (length run.old) }
 {
+    let section = numbered.section;
+    let bits = numbered.bits;
     let start = octets::first_bit(OctetNumber(6));
     let first = BitPlace(start.0 + done as usize * bits as usize);
     let fours = bits::fours_in(section.len(), first, bits, run.len());
@@ -99,28 +111,27 @@ pub fn put<B: Becomes>(section: &[u8], bits: u32, done: u64, sink: B, run: &mut 
 
 // Puts integers into a lent block, from number `done` of the field on, one for each element. Those of no bits are zeros, as the block has to be then: a
 // loop that writes zeros would become a call of the C library.
-pub fn unpack(section: &[u8], bits: u32, done: u64, block: &mut [u32])
-    requires { (bits ≤ 31) × (done ≤ 16777216) × (length block.old ≤ 16777216) × (ZerosWithoutBits bits block.old) }
-    ensures { block.new ≡ row (integers_behind section.now bits done) (length block.old) }
+pub fn unpack(numbered: NumberedSection, done: u64, block: &mut [u32])
+    requires { (done ≤ 16777216) × (length block.old ≤ 16777216) × (ZerosWithoutBits numbered.bits block.old) }
+    ensures { block.new ≡ row (integers_behind numbered.entry.section.now numbered.entry.bits done) (length block.old) }
 {
-    if bits == 0 {
+    if numbered.bits == 0 {
         return;
     }
-    put(section, bits, done, Itself, block);
+    put(numbered, done, Itself, block);
 }
 
 // Fills the runs for a field of n integers: a block at a time.
 pub fn fill(
-    section: &[u8],
+    numbered: NumberedSection,
     bitmap: &[u8],
-    bits: u32,
     n: u64,
     packing: Packing,
     values: &mut [f64],
     presence: &mut [u8],
 )
-    requires { (Room bitmap.now values.old presence.old) × (bits ≤ 31) × (n ≡ (marks_in bitmap.now).rank (length values.old)) }
-    ensures { Filled (marks_in bitmap.now) packing (simple_integer section.now bits)
+    requires { (Room bitmap.now values.old presence.old) × (n ≡ (marks_in bitmap.now).rank (length values.old)) }
+    ensures { Filled (marks_in bitmap.now) packing (simple_integer numbered.entry.section.now numbered.entry.bits)
         (lent values presence) (left values presence) }
 {
     let mut block = [0u32; 56];
@@ -128,7 +139,7 @@ pub fn fill(
     let mut done: u64 = 0;
     while done < n {
         let count = values_points::block_length(n - done);
-        unpack(section, bits, done, &mut block[0..count]);
+        unpack(numbered, done, &mut block[0..count]);
         point = values_points::write(bitmap, packing, &block[0..count], values, presence, point);
         done += count as u64;
     }

@@ -9,7 +9,7 @@ use Rattle.section_3_geometry.specs.Geometry.{points_of}
 use Rattle.values_points.specs.Written.{marks_in, runs, Room}
 use Rattle.values_points.proofs.Marks.{field_covers}
 use Rattle.question.specs.declared.DescribedField.{DescribedField}
-use Rattle.question.proofs.Known.{known_of, bitmap, bitmap_lies, few_points, scaled, bits_fit, groups_sound, groups_values, groups_decodable}
+use Rattle.question.proofs.Known.{known_of, bitmap, bitmap_lies, few_points, scaled, groups_values, groups_decodable}
 use Rattle.question_decode.specs.Decoding.{Stretch}
 use Rattle.question_decode.proofs.Laws.{packed_marked, field_rows, simple_size, groups_size}
 use Rattle.question_decode.proofs.fill.Goals as goal
@@ -36,7 +36,7 @@ pub fill-requires : goal.fill-requires
 fill-requires c =
     let f = c.args.field in
     let stretch = c.requires.stretch in
-    rw c.bitmap-bitmap.ensures (room f _ _ stretch, bits_fit f.file.now f.description (known_of f), ranks f _ _ stretch)
+    rw c.bitmap-bitmap.ensures (room f _ _ stretch, ranks f _ _ stretch)
 
 pub fill-requires-in-Complex : goal.fill-requires-in-Complex
 fill-requires-in-Complex c =
@@ -44,9 +44,8 @@ fill-requires-in-Complex c =
     let known = known_of f in
     let stretch = c.requires.stretch in
     let e = c.in-Complex.is in
-    rw (c.packed-section.ensures, c.bitmap-bitmap.ensures)
+    rw (c.grouped.ensures.0, c.grouped.ensures.1, c.bitmap-bitmap.ensures)
     (record {
-      sound = groups_sound f.file.now f.description known e;
       all_in_range = groups_decodable f.file.now f.description known e ∙ c.requires.decodable;
       room = room f _ _ stretch;
       groups_value = groups_values f.file.now f.description known e ∙ ranks f _ _ stretch;
@@ -57,7 +56,7 @@ returns-in-Simple c =
     let f = c.args.field in
     let rows = field_rows f.file.now f.description (known_of f) (runs c.args.values.now c.args.presence.now)
     (simple_size f.file.now f.description (known_of f) c.in-Simple.is) c.requires.stretch.0
-    (rw (c.packed-section.ensures, c.packing_of-packing.ensures, c.bitmap-bitmap.ensures) at c.fill.ensures) in
+    (rw (c.numbered.ensures.0, c.numbered.ensures.1, c.packing_of-packing.ensures, c.bitmap-bitmap.ensures) at c.fill.ensures) in
     record { values_after = rows.0; presence_after = rows.1 }
 
 pub returns-in-Complex : goal.returns-in-Complex
@@ -65,5 +64,5 @@ returns-in-Complex c =
     let f = c.args.field in
     let rows = field_rows f.file.now f.description (known_of f) (runs c.args.values.now c.args.presence.now)
     (groups_size f.file.now f.description (known_of f) c.in-Complex.is) c.requires.stretch.0
-    (rw (c.packed-section.ensures, c.packing_of-packing.ensures, c.bitmap-bitmap.ensures) at c.fill-in-Complex.ensures) in
+    (rw (c.grouped.ensures.0, c.grouped.ensures.1, c.packing_of-packing.ensures, c.bitmap-bitmap.ensures) at c.fill-in-Complex.ensures) in
     record { values_after = rows.0; presence_after = rows.1 }

@@ -14,7 +14,7 @@ pub returns : goal.returns
 returns c =
     let d = c.args.description in
     let indicator = pos (indicator_of d.presence) ∷ [] in
-    let third : Puts c.put-presence.new.run c.put-presence.result indicator c.put-starts.new.run c.put-starts.result = search rules in
+    let third : Puts c.put-presence.new.run c.put-presence.result indicator c.put_one-starts.new.run c.put_one-starts.result = search rules in
     puts_four c.args.run.now 0 (field_numbers d) (representation_numbers d.representation) indicator (start_numbers d.starts)
     (omega (arith, c.requires, shared_length d))
     c.put_field-representation.ensures

@@ -2,7 +2,7 @@
 use mathlib.Core.Path.{ap, ◌∙◌}
 use native.Mathlib.Omega.{arith}
 use Rattle.std.specs.Prelude.{Some}
-use Rattle.question.proofs.Known.{known_of, few_points, bits_fit, packed_most, groups_sound}
+use Rattle.question.proofs.Known.{known_of, few_points, packed_most}
 use Rattle.question_picture.proofs.Laws.{simple_largest, groups_largest}
 use Rattle.question_picture.proofs.largest_of.Goals as goal
 
@@ -10,19 +10,14 @@ pub of_simple-requires : goal.of_simple-requires
 of_simple-requires c =
     let f = c.args.field in
     let known = known_of f in
-    (bits_fit f.file.now f.description known, omega (arith, packed_most f.file.now f.description known, few_points f.file.now f.description known))
-
-pub of_complex-requires : goal.of_complex-requires
-of_complex-requires c =
-    let f = c.args.field in
-    rw c.packed-section.ensures (groups_sound f.file.now f.description (known_of f) c.in-Complex.is)
+    omega (arith, packed_most f.file.now f.description known, few_points f.file.now f.description known)
 
 pub returns-in-Simple : goal.returns-in-Simple
 returns-in-Simple c =
     let f = c.args.field in
-    ap Some (rw c.packed-section.ensures at c.of_simple.ensures) ∙ simple_largest f.file.now f.description (known_of f) c.in-Simple.is
+    ap Some (rw (c.numbered.ensures.0, c.numbered.ensures.1) at c.of_simple.ensures) ∙ simple_largest f.file.now f.description (known_of f) c.in-Simple.is
 
 pub returns-in-Complex : goal.returns-in-Complex
 returns-in-Complex c =
     let f = c.args.field in
-    rw c.packed-section.ensures at c.of_complex.ensures ∙ groups_largest f.file.now f.description (known_of f) c.in-Complex.is
+    rw (c.grouped.ensures.0, c.grouped.ensures.1) at c.of_complex.ensures ∙ groups_largest f.file.now f.description (known_of f) c.in-Complex.is

@@ -10,7 +10,7 @@ use Rattle.values_points.specs.Written.{marks_in}
 use Rattle.values_points.proofs.Marks.{field_covers}
 use Rattle.values_picture.specs.Painted.{Canvas}
 use Rattle.question.specs.declared.DescribedField.{DescribedField}
-use Rattle.question.proofs.Known.{known_of, bitmap, bitmap_lies, few_points, bits_fit, groups_sound, groups_values, groups_decodable}
+use Rattle.question.proofs.Known.{known_of, bitmap, bitmap_lies, few_points, groups_values, groups_decodable}
 use Rattle.question_decode.proofs.Laws.{packed_marked, simple_size, groups_size}
 use Rattle.question_picture.proofs.Laws.{largest_told, largest_ranges, sizes_below, field_greys}
 use Rattle.question_picture.proofs.paint.Goals as goal
@@ -32,9 +32,9 @@ paint_simple-requires c =
     let file = c.args.field.file.now in
     let d = c.args.field.description in
     let known = known_of c.args.field in
-    rw (c.packed-section.ensures, c.scale_of-scale.ensures, c.bitmap-bitmap.ensures)
+    rw (c.numbered.ensures.0, c.numbered.ensures.1, c.scale_of-scale.ensures, c.bitmap-bitmap.ensures)
     (record {
-      bits_bound = (bits_fit file d known, canvas c.args.field c.args.stretch.now c.requires.1);
+      canvas = canvas c.args.field c.args.stretch.now c.requires.1;
       scaled_to = (scale_scaled c.args.largest (largest_ranges file d known c.requires.0), sizes_below file d known c.requires.0 _ (simple_size file d known c.in-Simple.is));
     })
 
@@ -44,9 +44,11 @@ paint_complex-requires c =
     let d = c.args.field.description in
     let known = known_of c.args.field in
     let e = c.in-Complex.is in
-    rw (c.packed-section.ensures, c.scale_of-scale.ensures, c.bitmap-bitmap.ensures)
+    rw (c.grouped.ensures.0, c.grouped.ensures.1, c.scale_of-scale.ensures, c.bitmap-bitmap.ensures)
     (record {
-      sound = (groups_sound file d known e, groups_decodable file d known e ∙ (largest_told file d known c.requires.0).0, sym (groups_values file d known e), canvas c.args.field c.args.stretch.now c.requires.1);
+      all_in_range = groups_decodable file d known e ∙ (largest_told file d known c.requires.0).0;
+      n_value = sym (groups_values file d known e);
+      canvas = canvas c.args.field c.args.stretch.now c.requires.1;
       scaled_to = (scale_scaled c.args.largest (largest_ranges file d known c.requires.0), sizes_below file d known c.requires.0 _ (groups_size file d known e));
     })
 
@@ -55,7 +57,7 @@ returns-in-Simple c =
     let file = c.args.field.file.now in
     let d = c.args.field.description in
     let known = known_of c.args.field in
-    rw (c.packed-section.ensures, c.scale_of-scale.ensures, c.bitmap-bitmap.ensures) at c.paint_simple.ensures
+    rw (c.numbered.ensures.0, c.numbered.ensures.1, c.scale_of-scale.ensures, c.bitmap-bitmap.ensures) at c.paint_simple.ensures
     ∙ field_greys file d known c.requires.0 (simple_size file d known c.in-Simple.is) c.requires.1
 
 pub returns-in-Complex : goal.returns-in-Complex
@@ -63,5 +65,5 @@ returns-in-Complex c =
     let file = c.args.field.file.now in
     let d = c.args.field.description in
     let known = known_of c.args.field in
-    rw (c.packed-section.ensures, c.scale_of-scale.ensures, c.bitmap-bitmap.ensures) at c.paint_complex.ensures
+    rw (c.grouped.ensures.0, c.grouped.ensures.1, c.scale_of-scale.ensures, c.bitmap-bitmap.ensures) at c.paint_complex.ensures
     ∙ field_greys file d known c.requires.0 (groups_size file d known c.in-Complex.is) c.requires.1

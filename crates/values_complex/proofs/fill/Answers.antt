@@ -25,14 +25,14 @@ lengths c =
 
 pub write-point-requires-clause-points_left : goal.write-point-requires-clause-points_left
 write-point-requires-clause-points_left c =
-    ((omega arith, omega (arith, c.requires.groups_value, c.requires.sound.two_values, (ranked c.args.bitmap.now).none)), omega arith)
+    ((omega arith, omega (arith, c.requires.groups_value, c.args.grouped.sound.two_values, (ranked c.args.bitmap.now).none)), omega arith)
 
 pub loop-i-init : goal.loop-i-init
 loop-i-init c =
-    let section = c.args.section.now in
+    let g = c.args.grouped in
     let bitmap = c.args.bitmap.now in
-    let d = c.args.groups.differencing in
-    let fit = two_fit section c.args.groups c.requires.sound c.requires.all_in_range in
+    let d = g.groups.differencing in
+    let fit = two_fit g.section.now g.groups g.sound c.requires.all_in_range in
     let first : d.first % 2147483648 ≡ d.first = omega (arith, fit.0) in
     let second : d.second % 2147483648 ≡ d.second = omega (arith, fit.1) in
     rw c.first_bit-bit.ensures (
@@ -40,25 +40,25 @@ loop-i-init c =
       omega arith,
       omega arith,
       refl,
-      passed_none section c.args.groups c.requires.sound c.requires.all_in_range (ranked bitmap) first second c.write-point.ensures,
+      passed_none g.section.now g.groups g.sound c.requires.all_in_range (ranked bitmap) first second c.write-point.ensures,
     )
 
 pub write_group-reached-requires-clause-limits : goal.write_group-reached-requires-clause-limits
 write_group-reached-requires-clause-limits c =
-    let section = c.args.section.now in
-    let groups = c.args.groups in
+    let g = c.args.grouped in
     let passed = c.loop-i.invariant.4 in
     rw c.group_at-met.ensures.0 (
-      kept_limits section groups _ passed.kept c.loop-i-test.true c.requires.sound,
-      next_kept section groups c.requires.sound c.requires.all_in_range (ranked c.args.bitmap.now) passed c.loop-i-test.true,
+      kept_limits g.section.now g.groups _ passed.kept c.loop-i-test.true g.sound,
+      next_kept g.section.now g.groups g.sound c.requires.all_in_range (ranked c.args.bitmap.now) passed c.loop-i-test.true,
     )
 
 pub write_group-reached-requires-clause-room : goal.write_group-reached-requires-clause-room
 write_group-reached-requires-clause-room c =
+    let g = c.args.grouped in
     let bitmap = c.args.bitmap.now in
     let passed = c.loop-i.invariant.4 in
     let long = lengths (goal.at.write_group-reached-requires-clause-room c).At-loop-i in
-    let room = next_room c.args.section.now c.args.groups c.requires.sound c.requires.all_in_range (ranked bitmap) passed c.loop-i-test.true in
+    let room = next_room g.section.now g.groups g.sound c.requires.all_in_range (ranked bitmap) passed c.loop-i-test.true in
     rw c.group_at-met.ensures.0 (
       (omega (arith, long), omega (arith, long, c.requires.room.1), λ some. omega (arith, long, c.requires.room.2 some)),
       (omega (arith, long, passed.written.within), omega (arith, room, c.requires.groups_value, ap (marks_in bitmap).rank long.0)),
@@ -66,22 +66,24 @@ write_group-reached-requires-clause-room c =
 
 pub loop-i-preserved : goal.loop-i-preserved
 loop-i-preserved c =
+    let g = c.args.grouped in
     let group = c.group_at-met.ensures.0 in (
       c.loop-i.invariant.0,
       c.loop-i.invariant.1,
       c.loop-i.invariant.2,
       omega (arith, c.write_group-reached.auto, c.loop-i.invariant.3),
-      passed_more c.args.section.now c.args.groups c.requires.sound c.requires.all_in_range (ranked c.args.bitmap.now) c.loop-i.invariant.4 c.loop-i-test.true
+      passed_more g.section.now g.groups g.sound c.requires.all_in_range (ranked c.args.bitmap.now) c.loop-i.invariant.4 c.loop-i-test.true
           c.group_at-met.ensures.1 (rw group at c.write_group-reached.ensures.group_goes) (rw group at c.write_group-reached.ensures.group_written),
     )
 
 pub returns : goal.returns
 returns c =
+    let g = c.args.grouped in
     let bitmap = c.args.bitmap.now in
     let passed = c.loop-i.invariant.4 in
     let long = lengths (goal.at.returns c).At-loop-i in
-    let all = all_written c.args.section.now c.args.groups c.requires.sound c.requires.all_in_range (ranked bitmap) passed c.loop-i-test.false in
+    let all = all_written g.section.now g.groups g.sound c.requires.all_in_range (ranked bitmap) passed c.loop-i-test.false in
     let ranks = ap (marks_in bitmap).rank long.2 ∙ sym c.requires.groups_value ∙ sym all in
     rw long.2 at
-    (cleared_filled (marks_in bitmap) (ranked bitmap) c.args.packing (size_in c.args.section.now c.args.groups) passed.written c.clear_missing.ensures ranks
+    (cleared_filled (marks_in bitmap) (ranked bitmap) c.args.packing (size_in g.section.now g.groups) passed.written c.clear_missing.ensures ranks
     (long.3 ∙ sym long.2))

@@ -9,4 +9,4 @@ use Rattle.values_complex.proofs.fill.Given as goal
 abbrev pub invariant-loop-i : goal.invariant-loop-i
 invariant-loop-i l =
     (a : Runs) × (length a.doubles ≡ length l.initial.values) × (length a.marks ≡ length l.initial.presence) × (length l.block ≡ 56)
-    × Passed l.section l.groups (marks_in l.bitmap) l.packing a l.i l.reached l.start (runs l.values l.presence)
+    × Passed l.grouped.section.now l.grouped.groups (marks_in l.bitmap) l.packing a l.i l.reached l.start (runs l.values l.presence)

@@ -10,12 +10,12 @@ use Rattle.values_complex.proofs.group_at.Goals as goal
 -- The values up to the end of the group are few.
 values : (c : After-length_of-length) → c.args.start.values + c.length_of-length.result ≤ 16777216
 values c =
-    rw (c.requires.start_value, c.length_of-length.ensures.0) (values_fit _ _ c.requires.sound.0 c.requires.sound.1)
+    rw (c.requires.start_value, c.length_of-length.ensures.0) (values_fit _ _ c.args.grouped.now.sound c.requires.within)
 
 -- The place of the bit behind it is low.
 end : (c : After-length_of-length) → c.args.start.bit.0 + c.width_of-width.result * c.length_of-length.result < 2 ^ 40
 end c =
-    rw (c.requires.start_value, c.width_of-width.ensures, c.length_of-length.ensures.0) (omega (arith, end_low _ _ c.requires.sound.0 c.requires.sound.1))
+    rw (c.requires.start_value, c.width_of-width.ensures, c.length_of-length.ensures.0) (omega (arith, end_low _ _ c.args.grouped.now.sound c.requires.within))
 
 -- No more is skipped than the group has, in values and in bits.
 skips : (c : After-skipped-skip) →
@@ -40,11 +40,12 @@ overflow_add-result-4 c = omega (arith, end (goal.at.overflow_add-result-4 c).Af
 
 pub returns : goal.returns
 returns c =
+    let g = c.args.grouped.now in
     let a = c.args in
     let width = c.width_of-width.ensures in
     let length = c.length_of-length.ensures.0 in
     let reference = c.stored-reference.ensures.0 in
     let skip = c.skipped-skip.ensures in (
       rw (skip, c.requires.start_value, width, length, reference, c.raised_by.ensures, c.lowered_by.ensures),
-      rw (c.requires.start_value, width, length) (sym (start_more a.section.now a.groups a.i)),
+      rw (c.requires.start_value, width, length) (sym (start_more g.section.now g.groups a.i)),
     )

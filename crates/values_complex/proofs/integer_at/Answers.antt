@@ -12,18 +12,20 @@ use Rattle.values_complex.proofs.integer_at.Goals as goal
 
 pub returns-then-differencing-gt2147483647 : goal.returns-then-differencing-gt2147483647
 returns-then-differencing-gt2147483647 c =
+    let g = c.args.grouped in
     let a = c.args in
-    single_out a.section.now a.groups a.m (first_out a.section.now a.groups c.if-differencing-gt2147483647.true (suc a.m) (omega arith))
+    single_out g.section.now g.groups a.m (first_out g.section.now g.groups c.if-differencing-gt2147483647.true (suc a.m) (omega arith))
 
 pub returns-then-m-eq0 : goal.returns-then-m-eq0
 returns-then-m-eq0 c =
-    let a = c.args in
-    first_single a.section.now a.groups c.if-differencing-gt2147483647.false ∙ ap (single_of (integer_in a.section.now a.groups)) (sym c.if-m-eq0.true)
+    let g = c.args.grouped in
+    first_single g.section.now g.groups c.if-differencing-gt2147483647.false ∙ ap (single_of (integer_in g.section.now g.groups)) (sym c.if-m-eq0.true)
 
 pub returns-then-differencing-gt2147483647-2 : goal.returns-then-differencing-gt2147483647-2
 returns-then-differencing-gt2147483647-2 c =
+    let g = c.args.grouped in
     let a = c.args in
-    single_out a.section.now a.groups a.m (second_out a.section.now a.groups c.if-differencing-gt2147483647-2.true (suc a.m) (omega (arith, c.if-m-eq0.false)))
+    single_out g.section.now g.groups a.m (second_out g.section.now g.groups c.if-differencing-gt2147483647-2.true (suc a.m) (omega (arith, c.if-m-eq0.false)))
 
 -- The integer is not the first.
 behind : (c : Else-differencing-gt2147483647-2) → 1 ≤ c.args.m
@@ -31,22 +33,24 @@ behind c = omega (arith, c.if-m-eq0.false)
 
 pub overflow_cast-result : goal.overflow_cast-result
 overflow_cast-result c =
+    let g = c.args.grouped in
     let a = c.args in
-    let g = a.groups in
-    omega (arith, (worked_sound g.differencing (stored_at a.section.now g.layout g.bits g.grouping) (a.m - 1) (sym c.worked_to.ensures ∙ c.in_ok-latest.was)).last_fits)
+    omega (arith, (worked_sound g.groups.differencing (stored_at g.section.now g.groups.layout g.groups.bits g.groups.grouping) (a.m - 1) (sym c.worked_to.ensures ∙ c.in_ok-latest.was)).last_fits)
 
 pub returns-in_err-latest : goal.returns-in_err-latest
 returns-in_err-latest c =
+    let g = c.args.grouped in
     let a = c.args in
     let own : a.m - 1 + 2 ≡ suc a.m = omega (arith, behind (goal.at.returns-in_err-latest c).Else-differencing-gt2147483647-2) in
     c.from_residual.ensures
-    ∙ single_out a.section.now a.groups a.m
-    (sym (ap (are_in_range (integer_in a.section.now a.groups)) own)
-    ∙ range_worked a.section.now a.groups (a.m - 1)
+    ∙ single_out g.section.now g.groups a.m
+    (sym (ap (are_in_range (integer_in g.section.now g.groups)) own)
+    ∙ range_worked g.section.now g.groups (a.m - 1)
     ∙ ap is_some (sym c.worked_to.ensures ∙ c.in_err-latest.was))
 
 pub returns : goal.returns
 returns c =
+    let g = c.args.grouped in
     let a = c.args in
     let own : suc (a.m - 1) ≡ a.m = omega (arith, behind (goal.at.returns c).Else-differencing-gt2147483647-2) in
-    single_kept a.section.now a.groups (a.m - 1) (sym c.worked_to.ensures ∙ c.in_ok-latest.was) ∙ ap (single_of (integer_in a.section.now a.groups)) own
+    single_kept g.section.now g.groups (a.m - 1) (sym c.worked_to.ensures ∙ c.in_ok-latest.was) ∙ ap (single_of (integer_in g.section.now g.groups)) own

@@ -11,22 +11,25 @@ use Rattle.values_complex.proofs.is_in_range.Goals as goal
 
 -- A field has two values.
 two : (s : Start) → 2 ≤ s.args.n
-two s = omega (arith, s.requires.1, s.requires.0.two_values)
+two s = omega (arith, s.requires, s.args.grouped.sound.two_values)
 
 pub returns-then-differencing-gt2147483647 : goal.returns-then-differencing-gt2147483647
 returns-then-differencing-gt2147483647 c =
-    sym (first_out c.args.section.now c.args.groups c.if-differencing-gt2147483647.true c.args.n (omega (arith, two (goal.at.returns-then-differencing-gt2147483647 c).Start)))
+    let g = c.args.grouped in
+    sym (first_out g.section.now g.groups c.if-differencing-gt2147483647.true c.args.n (omega (arith, two (goal.at.returns-then-differencing-gt2147483647 c).Start)))
 
 pub returns-then-differencing-gt2147483647-2 : goal.returns-then-differencing-gt2147483647-2
 returns-then-differencing-gt2147483647-2 c =
-    sym (second_out c.args.section.now c.args.groups c.if-differencing-gt2147483647-2.true c.args.n (two (goal.at.returns-then-differencing-gt2147483647-2 c).Start))
+    let g = c.args.grouped in
+    sym (second_out g.section.now g.groups c.if-differencing-gt2147483647-2.true c.args.n (two (goal.at.returns-then-differencing-gt2147483647-2 c).Start))
 
 -- All are in their range exactly where the last is kept.
 pub returns : goal.returns
 returns c =
+    let g = c.args.grouped in
     let a = c.args in
-    let all : a.n - 2 + 2 ≡ a.n = omega (arith, c.requires.1, c.requires.0.two_values) in
+    let all : a.n - 2 + 2 ≡ a.n = omega (arith, c.requires, g.sound.two_values) in
     c.is_some.ensures
     ∙ ap is_some c.worked_to.ensures
-    ∙ sym (range_worked a.section.now a.groups (a.n - 2))
-    ∙ ap (are_in_range (integer_in a.section.now a.groups)) all
+    ∙ sym (range_worked g.section.now g.groups (a.n - 2))
+    ∙ ap (are_in_range (integer_in g.section.now g.groups)) all

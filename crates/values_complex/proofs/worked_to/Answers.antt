@@ -12,45 +12,54 @@ use Rattle.values_complex.proofs.worked_to.Goals as goal
 
 pub loop-left-init : goal.loop-left-init
 loop-left-init c =
-    working_none c.args.section.now c.args.groups c.args.wanted c.requires.first_bound.0 c.requires.first_bound.1 c.first_bit-bit.ensures
+    let g = c.args.grouped in
+    working_none g.section.now g.groups c.args.wanted c.requires.first_bound.0 c.requires.first_bound.1 c.first_bit-bit.ensures
 
 -- Some integers are left, so there is a group.
-inside : (c : In-loop-left) → c.loop-left.i < c.args.groups.grouping.groups
+inside : (c : In-loop-left) → c.loop-left.i < c.args.grouped.groups.grouping.groups
 inside c =
-    working_group c.args.section.now c.args.groups c.args.wanted c.loop-left.invariant c.loop-left-test.true c.requires.sound.1
+    let g = c.args.grouped in
+    working_group g.section.now g.groups c.args.wanted c.loop-left.invariant c.loop-left-test.true c.requires.wanted_bound
 
 -- The group that is judged: the first numbers of group i.
 first : (c : After-first_of-group) →
     let l = c.loop-left in
-    let a = c.args in
-    c.first_of-group.result ≡ first_of (group_at a.section.now a.groups l.i) l.left
+    let g = c.args.grouped in
+    c.first_of-group.result ≡ first_of (group_at g.section.now g.groups l.i) l.left
 first c = let l = c.loop-left in c.first_of-group.ensures ∙ ap (λ (g : Group). first_of g l.left) c.group_at-met.ensures.0
 
 pub judge-requires : goal.judge-requires
 judge-requires c =
     let l = c.loop-left in
+    let g = c.args.grouped in
     rw (first (goal.at.judge-requires c).After-first_of-group)
-    (cut_limits (group_at c.args.section.now c.args.groups l.i) l.left (kept_limits c.args.section.now c.args.groups _ l.invariant.kept (inside (goal.at.judge-requires c).In-loop-left) c.requires.sound.0))
+    (cut_limits (group_at g.section.now g.groups l.i) l.left (kept_limits g.section.now g.groups _ l.invariant.kept (inside (goal.at.judge-requires c).In-loop-left) g.sound))
 
 -- What their judging answers.
 judged : (c : After-judge) →
     let l = c.loop-left in
-    let a = c.args in
-    let g = first_of (group_at a.section.now a.groups l.i) l.left in
-    c.judge.result ≡ worked_by a.section.now g (Some l.latest) g.count
+    let run = c.args.grouped.section.now in
+    let group = first_of (group_at run c.args.grouped.groups l.i) l.left in
+    c.judge.result ≡ worked_by run group (Some l.latest) group.count
 judged c =
-    let first : (let l = c.loop-left in let a = c.args in c.first_of-group.result ≡ first_of (group_at a.section.now a.groups l.i) l.left) = let l = c.loop-left in c.first_of-group.ensures ∙ ap (λ (g : Group). first_of g l.left) c.group_at-met.ensures.0 in
-    rw (first) at c.judge.ensures
+    let l = c.loop-left in
+    let first = c.first_of-group.ensures ∙ ap (λ (g : Group). first_of g l.left) c.group_at-met.ensures.0 in
+    rw first at c.judge.ensures
 
 pub returns-in_err-latest : goal.returns-in_err-latest
 returns-in_err-latest c =
-    c.from_residual.ensures ∙ working_out c.args.section.now c.args.groups c.args.wanted c.loop-left.invariant c.loop-left-test.true (inside (goal.at.returns-in_err-latest c).In-loop-left) (judged (goal.at.returns-in_err-latest c).After-judge) c.in_err-latest.was
+    let g = c.args.grouped in
+    c.from_residual.ensures
+    ∙ working_out g.section.now g.groups c.args.wanted c.loop-left.invariant c.loop-left-test.true (inside (goal.at.returns-in_err-latest c).In-loop-left) (judged (goal.at.returns-in_err-latest c).After-judge) c.in_err-latest.was
 
 -- No more integers are judged than are left.
-counted : (c : After-first_of-group) → c.first_of-group.result.count ≡ (first_of (group_at c.args.section.now c.args.groups c.loop-left.i) c.loop-left.left).count
+counted : (c : After-first_of-group) →
+    let g = c.args.grouped in
+    c.first_of-group.result.count ≡ (first_of (group_at g.section.now g.groups c.loop-left.i) c.loop-left.left).count
 counted c = ap (λ (g : Group). g.count) (first c)
 
 pub loop-left-preserved : goal.loop-left-preserved
 loop-left-preserved c =
-    let on = working_on c.args.section.now c.args.groups c.args.wanted c.loop-left.invariant c.loop-left-test.true (inside (goal.at.loop-left-preserved c).In-loop-left) (judged (goal.at.loop-left-preserved c).After-judge) c.in_ok-latest.was in
+    let g = c.args.grouped in
+    let on = working_on g.section.now g.groups c.args.wanted c.loop-left.invariant c.loop-left-test.true (inside (goal.at.loop-left-preserved c).In-loop-left) (judged (goal.at.loop-left-preserved c).After-judge) c.in_ok-latest.was in
     rw (counted (goal.at.loop-left-preserved c).After-first_of-group, c.group_at-met.ensures.1) on

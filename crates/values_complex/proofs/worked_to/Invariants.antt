@@ -5,7 +5,7 @@ use Rattle.values_complex.proofs.Turns.{Working}
 use Rattle.values_complex.proofs.worked_to.Given as goal
 
 abbrev pub invariant-loop-left : goal.invariant-loop-left
-invariant-loop-left l = Working l.section l.groups l.wanted l.left l.i l.latest l.start
+invariant-loop-left l = Working l.grouped.section.now l.grouped.groups l.wanted l.left l.i l.latest l.start
 
 abbrev pub decreases-loop-left : goal.decreases-loop-left
-decreases-loop-left l = l.groups.grouping.groups - l.i
+decreases-loop-left l = l.grouped.groups.grouping.groups - l.i

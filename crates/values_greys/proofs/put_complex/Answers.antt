@@ -15,31 +15,35 @@ use Rattle.values_greys.proofs.put_complex.Goals as goal
 
 pub grey_of-requires : goal.grey_of-requires
 grey_of-requires c =
-    grey_asked c.args.scale 0 c.requires.scaled_to (first_size c.args.section.now c.args.groups) (omega (arith, c.requires.sound.0.two_values))
+    let g = c.args.grouped in
+    grey_asked c.args.scale 0 c.requires.scaled_to (first_size g.section.now g.groups) (omega (arith, g.sound.two_values))
 
 pub grey_of-requires-2 : goal.grey_of-requires-2
 grey_of-requires-2 c =
-    grey_asked c.args.scale 1 c.requires.scaled_to (second_size c.args.section.now c.args.groups) (omega (arith, c.requires.sound.0.two_values))
+    let g = c.args.grouped in
+    grey_asked c.args.scale 1 c.requires.scaled_to (second_size g.section.now g.groups) (omega (arith, g.sound.two_values))
 
 pub loop-i-init : goal.loop-i-init
 loop-i-init c =
-    passed_none c.args.section.now c.args.groups c.args.scale c.requires.sound.0 c.requires.sound.1 _ c.first_bit-bit.ensures
+    let g = c.args.grouped in
+    passed_none g.section.now g.groups c.args.scale g.sound c.requires.all_in_range _ c.first_bit-bit.ensures
 
 -- The run with the first two greys is as long as the one that was lent: one octet for each value.
 long : (c : At-loop-i) →
-    values_in c.args.section.now c.args.groups ≡ length (set (set c.args.greys.now 0 c.grey_of.result) 1 c.grey_of-2.result)
-long c = rw (length-set, length-set) (sym c.requires.sound.2)
+    values_in c.args.grouped.section.now c.args.grouped.groups ≡ length (set (set c.args.greys.now 0 c.grey_of.result) 1 c.grey_of-2.result)
+long c = rw (length-set, length-set) (sym c.requires.greys_value)
 
 -- The group's stretch lies in the run, which is not long.
 fits : (c : After-group_at-met) →
     let end = c.loop-i.done + c.group_at-met.result.group.count in
     (end ≤ length c.loop-i.greys) × (end ≤ 16777216)
 fits c =
+    let g = c.args.grouped in
     let a = c.args in
-    let room = next_room a.section.now a.groups a.scale c.requires.sound.0 c.requires.sound.1 c.loop-i.invariant c.loop-i-test.true in
-    let whole : values_in a.section.now a.groups ≡ length (set (set a.greys.now 0 c.grey_of.result) 1 c.grey_of-2.result) = rw (length-set, length-set) (sym c.requires.sound.2) in
+    let room = next_room g.section.now g.groups a.scale g.sound c.requires.all_in_range c.loop-i.invariant c.loop-i-test.true in
+    let whole : values_in g.section.now g.groups ≡ length (set (set a.greys.now 0 c.grey_of.result) 1 c.grey_of-2.result) = rw (length-set, length-set) (sym c.requires.greys_value) in
     rw c.group_at-met.ensures.0
-    (omega (arith, room, whole, passed_length a.section.now a.groups a.scale c.loop-i.invariant, c.requires.sound.0.few_values))
+    (omega (arith, room, whole, passed_length g.section.now g.groups a.scale c.loop-i.invariant, g.sound.few_values))
 
 pub overflow_add-end : goal.overflow_add-end
 overflow_add-end c = omega (arith, (fits (goal.at.overflow_add-end c).After-group_at-met).1)
@@ -60,32 +64,35 @@ stretch c =
 
 pub put-latest-requires : goal.put-latest-requires
 put-latest-requires c =
+    let g = c.args.grouped in
     let a = c.args in
-    let run = a.section.now in
+    let run = g.section.now in
     let p = c.loop-i.invariant in
     let here = c.loop-i-test.true in
-    let below = next_below run a.groups a.scale c.requires.sound.0 c.requires.sound.1 p here c.requires.scaled_to.1 in
+    let below = next_below run g.groups a.scale g.sound c.requires.all_in_range p here c.requires.scaled_to.1 in
     rw (stretch (goal.at.put-latest-requires c).After-group_at-met, c.group_at-met.ensures.0) (record {
-      limits = (kept_limits run a.groups _ p.kept here c.requires.sound.0, omega arith);
-      group_kept = next_kept run a.groups a.scale c.requires.sound.0 c.requires.sound.1 p here;
+      limits = (kept_limits run g.groups _ p.kept here g.sound, omega arith);
+      group_kept = next_kept run g.groups a.scale g.sound c.requires.all_in_range p here;
       taken = λ k h. (c.requires.scaled_to.0, below k h);
     })
 
 pub loop-i-preserved : goal.loop-i-preserved
 loop-i-preserved c =
+    let g = c.args.grouped in
     let a = c.args in
     let told = rw (stretch (goal.at.loop-i-preserved c).After-group_at-met, c.group_at-met.ensures.0) at c.put-latest.ensures in
     rw c.group_at-met.ensures.0
-    (passed_more a.section.now a.groups a.scale c.requires.sound.0 c.requires.sound.1 c.loop-i.invariant c.loop-i-test.true (long (goal.at.loop-i-preserved c).At-loop-i)
+    (passed_more g.section.now g.groups a.scale g.sound c.requires.all_in_range c.loop-i.invariant c.loop-i-test.true (long (goal.at.loop-i-preserved c).At-loop-i)
     c.group_at-met.ensures.1 told.group_goes told.run_after)
 
 pub returns : goal.returns
 returns c =
+    let g = c.args.grouped in
     let a = c.args in
-    let run = a.section.now in
+    let run = g.section.now in
     let n = length a.greys.now in
-    let f : ℕ → ℕ = packed_grey a.scale (size_in run a.groups) in
-    let more : 2 ≤ n = omega (arith, c.requires.sound.0.two_values, c.requires.sound.2) in
-    let two = two_greyed run a.groups a.scale a.greys.now c.grey_of.ensures c.grey_of-2.ensures in
-    let all = passed_all run a.groups a.scale c.requires.sound.0 c.requires.sound.1 c.loop-i.invariant c.loop-i-test.false ∙ sym c.requires.sound.2 in
+    let f : ℕ → ℕ = packed_grey a.scale (size_in run g.groups) in
+    let more : 2 ≤ n = omega (arith, g.sound.two_values, c.requires.greys_value) in
+    let two = two_greyed run g.groups a.scale a.greys.now c.grey_of.ensures c.grey_of-2.ensures in
+    let all = passed_all run g.groups a.scale g.sound c.requires.all_in_range c.loop-i.invariant c.loop-i-test.false ∙ sym c.requires.greys_value in
     filled_further f a.greys.now _ c.loop-i.greys more two (rw all at c.loop-i.invariant.greyed) ∙ filled_whole f n a.greys.now refl

@@ -8,32 +8,37 @@ use Rattle.values_largest.proofs.of_complex.Goals as goal
 
 pub returns-then-differencing-gt2147483647 : goal.returns-then-differencing-gt2147483647
 returns-then-differencing-gt2147483647 c =
-    rw (first_out c.args.section.now c.args.groups c.if-differencing-gt2147483647.true (values_in c.args.section.now c.args.groups) (omega (arith, c.requires.two_values)))
+    let g = c.args.grouped in
+    rw (first_out g.section.now g.groups c.if-differencing-gt2147483647.true (values_in g.section.now g.groups) (omega (arith, g.sound.two_values)))
 
 pub returns-then-differencing-gt2147483647-2 : goal.returns-then-differencing-gt2147483647-2
 returns-then-differencing-gt2147483647-2 c =
-    rw (second_out c.args.section.now c.args.groups c.if-differencing-gt2147483647-2.true (values_in c.args.section.now c.args.groups) c.requires.two_values)
+    let g = c.args.grouped in
+    rw (second_out g.section.now g.groups c.if-differencing-gt2147483647-2.true (values_in g.section.now g.groups) g.sound.two_values)
 
 pub loop-i-init : goal.loop-i-init
 loop-i-init c =
-    let a = c.args in
-    gathered_none a.section.now a.groups c.if-differencing-gt2147483647.false c.if-differencing-gt2147483647-2.false c.first_bit-bit.ensures c.max.ensures
+    let g = c.args.grouped in
+    gathered_none g.section.now g.groups c.if-differencing-gt2147483647.false c.if-differencing-gt2147483647-2.false c.first_bit-bit.ensures c.max.ensures
 
 pub in_group-requires : goal.in_group-requires
 in_group-requires c =
+    let g = c.args.grouped in
     let l = c.loop-i in
-    rw c.group_at-met.ensures.0 (gathered_limits c.args.section.now c.args.groups c.requires l.invariant c.loop-i-test.true, l.invariant.fits)
+    rw c.group_at-met.ensures.0 (gathered_limits g.section.now g.groups g.sound l.invariant c.loop-i-test.true, l.invariant.fits)
 
 pub returns-in_err-seen : goal.returns-in_err-seen
 returns-in_err-seen c =
+    let g = c.args.grouped in
     let answered = rw c.group_at-met.ensures.0 at c.in_group.ensures in
     c.from_residual.ensures
-    ∙ gathered_out c.args.section.now c.args.groups c.requires c.loop-i.invariant c.loop-i-test.true answered c.in_err-seen.was
+    ∙ gathered_out g.section.now g.groups g.sound c.loop-i.invariant c.loop-i-test.true answered c.in_err-seen.was
 
 pub loop-i-preserved : goal.loop-i-preserved
 loop-i-preserved c =
+    let g = c.args.grouped in
     let answered = rw c.group_at-met.ensures.0 at c.in_group.ensures in
-    gathered_on c.args.section.now c.args.groups c.requires c.loop-i.invariant c.loop-i-test.true answered c.in_ok-seen.was c.group_at-met.ensures.1
+    gathered_on g.section.now g.groups g.sound c.loop-i.invariant c.loop-i-test.true answered c.in_ok-seen.was c.group_at-met.ensures.1
 
 pub returns : goal.returns
-returns c = gathered_all c.args.section.now c.args.groups c.requires c.loop-i.invariant c.loop-i-test.false
+returns c = let g = c.args.grouped in gathered_all g.section.now g.groups g.sound c.loop-i.invariant c.loop-i-test.false

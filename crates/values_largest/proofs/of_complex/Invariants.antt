@@ -4,4 +4,4 @@ use Rattle.values_largest.proofs.Passed.{Gathered}
 use Rattle.values_largest.proofs.of_complex.Given as goal
 
 abbrev pub invariant-loop-i : goal.invariant-loop-i
-invariant-loop-i l = Gathered l.section l.groups l.i l.seen l.start
+invariant-loop-i l = Gathered l.grouped.section.now l.grouped.groups l.i l.seen l.start

@@ -8,4 +8,4 @@ use Rattle.values_largest.proofs.of_simple.Given as goal
 
 abbrev pub invariant-loop : goal.invariant-loop
 invariant-loop l =
-    Stands l.section l.bits (first_bit 6) l.counter l.reader × (l.largest ≡ largest_of (simple_integer l.section l.bits) l.counter)
+    Stands l.numbered.section.now l.numbered.bits (first_bit 6) l.counter l.reader × (l.largest ≡ largest_of (simple_integer l.numbered.section.now l.numbered.bits) l.counter)

@@ -28,7 +28,7 @@ loop-done-init c =
       λ _. refl,
       refl,
       refl,
-      written_none (marks_in a.bitmap.now) (ranked a.bitmap.now).more a.packing (simple_integer a.section.now a.bits) 0 (runs a.values.now a.presence.now) (omega arith),
+      written_none (marks_in a.bitmap.now) (ranked a.bitmap.now).more a.packing (simple_integer a.numbered.section.now a.numbered.bits) 0 (runs a.values.now a.presence.now) (omega arith),
     )
 
 -- The integers of the next block: at least one, at most 56, and among those that are left, which are few. The part of the block that is lent for them has as many
@@ -52,15 +52,15 @@ pub unpack-requires : goal.unpack-requires
 unpack-requires c =
     let l = c.loop-done in
     let next = few (goal.at.unpack-requires c).After-block_length-count in
-    (c.requires.1, omega (arith, next.3, l.invariant.0), omega (arith, next), zeros l.invariant.2 next.1 next.4)
+    (omega (arith, next.3, l.invariant.0), omega (arith, next), zeros l.invariant.2 next.1 next.4)
 
 -- The part comes back with the next integers, as long as it was, and is what is written next. The block keeps its length, and its zeros where integers have no bits.
 returned : (c : After-unpack) →
     let a = c.args in
     let n = c.block_length-count.result in
     let block = put_mid 0 (n - 0) c.loop-done.block c.unpack.new.block in
-    (c.unpack.new.block ≡ row (integers_behind a.section.now a.bits c.loop-done.done) n)
-    × (length c.unpack.new.block ≡ n) × (length block ≡ 56) × (a.bits ≡ 0 → block ≡ row (λ _. 0) 56) × (take (n - 0) block ≡ c.unpack.new.block)
+    (c.unpack.new.block ≡ row (integers_behind a.numbered.section.now a.numbered.bits c.loop-done.done) n)
+    × (length c.unpack.new.block ≡ n) × (length block ≡ 56) × (a.numbered.bits ≡ 0 → block ≡ row (λ _. 0) 56) × (take (n - 0) block ≡ c.unpack.new.block)
 returned c =
     let l = c.loop-done in
     let a = c.args in
@@ -68,8 +68,8 @@ returned c =
     let within = block_within (a.n - l.done) c.block_length-count.ensures (omega (arith, c.loop-done-test.true)) in
     let lent = part_length {n = n} l.block (omega (arith, within.1, l.invariant.1)) in
     let part = rw lent at c.unpack.ensures in
-    let long = ap length part ∙ row_length (integers_behind a.section.now a.bits l.done) n in
-    let same = λ (none : a.bits ≡ 0). zeros_stay a.section.now a.bits l.done (take (n - 0) l.block) none (zeros l.invariant.2 within.1 lent) c.unpack.ensures in (
+    let long = ap length part ∙ row_length (integers_behind a.numbered.section.now a.numbered.bits l.done) n in
+    let same = λ (none : a.numbered.bits ≡ 0). zeros_stay a.numbered.section.now a.numbered.bits l.done (take (n - 0) l.block) none (zeros l.invariant.2 within.1 lent) c.unpack.ensures in (
       part,
       long,
       same_len_mid 0 (n - 0) l.block c.unpack.new.block (long ∙ sym lent) ∙ l.invariant.1,
@@ -86,7 +86,7 @@ write-point-requires-clause-points_left c =
     let part = ap length back.4 ∙ back.1 in
     let next = few at.After-block_length-count in
     let all = ap (marks_in bitmap).rank l.invariant.3 in (
-      (omega (arith, l.invariant.5.past.within, l.invariant.3), omega (arith, part, next.0, l.invariant.0, l.invariant.5.past.used, (ranked bitmap).none, all, c.requires.2)),
+      (omega (arith, l.invariant.5.past.within, l.invariant.3), omega (arith, part, next.0, l.invariant.0, l.invariant.5.past.used, (ranked bitmap).none, all, c.requires.1)),
       omega (arith, part, next.1),
     )
 
@@ -100,18 +100,18 @@ loop-done-preserved c =
     let back = returned at.After-unpack in
     let part = c.unpack.new.block in
     let written = rw (back.4, back.1) at c.write-point.ensures in
-    let same = block_integers a.section.now l.done c.block_length-count.result part c.requires.1 back.0 in (
+    let same = block_integers a.numbered.section.now l.done c.block_length-count.result part c.args.numbered.fits back.0 in (
       omega (arith, next.0, l.invariant.0),
       back.2,
       back.3,
       omega (arith, c.write-point.auto, l.invariant.3),
       omega (arith, c.write-point.auto, l.invariant.4),
-      written_then (marks_in bitmap) (ranked bitmap).more a.packing (simple_integer a.section.now a.bits) (integers_in part) l.invariant.5 written same,
+      written_then (marks_in bitmap) (ranked bitmap).more a.packing (simple_integer a.numbered.section.now a.numbered.bits) (integers_in part) l.invariant.5 written same,
     )
 
 pub returns : goal.returns
 returns c =
     let bitmap = c.args.bitmap.now in
     let all : c.loop-done.done ≡ c.args.n = omega (arith, c.loop-done.invariant.0, c.loop-done-test.false) in
-    cleared_filled (marks_in bitmap) (ranked bitmap) c.args.packing (simple_integer c.args.section.now c.args.bits) c.loop-done.invariant.5.past c.clear_missing.ensures
-    (sym (all ∙ c.requires.2)) c.requires.0.0
+    cleared_filled (marks_in bitmap) (ranked bitmap) c.args.packing (simple_integer c.args.numbered.section.now c.args.numbered.bits) c.loop-done.invariant.5.past c.clear_missing.ensures
+    (sym (all ∙ c.requires.1)) c.requires.0.0

@@ -10,8 +10,8 @@ use Rattle.values_simple.proofs.fill.Given as goal
 
 abbrev pub invariant-loop-done : goal.invariant-loop-done
 invariant-loop-done l =
-    (l.done ≤ l.n) × (length l.block ≡ 56) × (l.bits ≡ 0 → l.block ≡ row (λ _. 0) 56) × (length l.values ≡ length l.initial.values) × (length l.presence ≡ length l.initial.presence)
-    × Written (marks_in l.bitmap) l.packing (simple_integer l.section l.bits) l.done 0 l.point (runs l.initial.values l.initial.presence) (runs l.values l.presence)
+    (l.done ≤ l.n) × (length l.block ≡ 56) × (l.numbered.bits ≡ 0 → l.block ≡ row (λ _. 0) 56) × (length l.values ≡ length l.initial.values) × (length l.presence ≡ length l.initial.presence)
+    × Written (marks_in l.bitmap) l.packing (simple_integer l.numbered.section.now l.numbered.bits) l.done 0 l.point (runs l.initial.values l.initial.presence) (runs l.values l.presence)
 
 abbrev pub decreases-loop-done : goal.decreases-loop-done
 decreases-loop-done l = l.n - l.done

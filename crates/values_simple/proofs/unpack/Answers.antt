@@ -2,5 +2,5 @@
 use Rattle.values_simple.proofs.Laws.{no_bits}
 use Rattle.values_simple.proofs.unpack.Goals as goal
 
-pub returns-then-bits-eq0 : goal.returns-then-bits-eq0
-returns-then-bits-eq0 c = no_bits c.args.section.now c.args.bits c.args.done c.args.block.now c.if-bits-eq0.true c.requires.3
+pub returns-then-numbered-eq0 : goal.returns-then-numbered-eq0
+returns-then-numbered-eq0 c = no_bits c.args.numbered.section.now c.args.numbered.bits c.args.done c.args.block.now c.if-numbered-eq0.true c.requires.2
