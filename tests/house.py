@@ -241,11 +241,13 @@ def nothing_asked_of_users():
         yield 'docs/DEMANDS.md: no function %s' % called
 
 
-# The functions whose answer is a part of the file, of which the octets are seen, and not where they lie: docs/DEMANDS.md, "Any two outcomes are equal".
+# The functions whose answer is a part of the file, or has one, of which the octets are seen, and not where they lie: docs/DEMANDS.md, "Any two outcomes are equal".
 SEEN = dict.fromkeys(
     ('section.FileSection.octets', 'section_6.bitmap_in_force', 'question.DescribedField.packed', 'question.DescribedField.bitmap'),
     '_ (λ _. (λ x. x.now))',
 )
+SEEN['question.DescribedField.numbered'] = '(λ _. List ℕ × ℕ) (λ _. (λ x. (x.section.now, x.bits)))'
+SEEN['question.DescribedField.grouped'] = '(λ _. List ℕ × Groups) (λ _. (λ x. (x.section.now, x.groups)))'
 
 
 # The generic functions, with what their contracts are taken at: every type, all that the bound says of it, and every table of the functions that it has.

@@ -1,5 +1,8 @@
 -- The contracts of the questions leave nothing open, refused calls included: what is answered, and what the lent runs hold afterwards.
+use mathlib.Core.List.{List}
 use mathlib.Core.Path.{refl}
+use Prim.Native.Nat.{ℕ}
+use Rattle.section_7.specs.declared.Groups.{Groups}
 use Rattle.theorems_outcomes.specs.Determined.{Determined, SeenDetermined}
 use Rattle.theorems_outcomes.proofs.Facts.{alike, one, two, three}
 use Rattle.question.specs.contracts as question
@@ -17,12 +20,19 @@ use Rattle.listing_file.proofs.Laws.{print_one}
 pub question_describe : Determined question.describe.ended (λ _ _. question.describe.clauses)
 question_describe _ 𝓤 𝓛 _ _ _ _ _ _ _ _ _ _ = one 𝓤 (λ p q. (alike p q, refl))
 
--- What a field that is described has: its points, its packed integers and its bitmap. Of the last two it is the octets that are seen.
+-- What a field that is described has: its points, its packed integers, alone, with their bits and with their groups, and its bitmap. Of all but the first it is
+-- the octets that are seen.
 pub question_DescribedField_points : Determined question.DescribedField.points.ended (λ _ _. question.DescribedField.points.clauses)
 question_DescribedField_points _ 𝓤 𝓛 _ _ _ _ _ _ _ _ _ _ = one 𝓤 (λ p q. (alike p.0 q.0, refl))
 
 pub question_DescribedField_packed : SeenDetermined question.DescribedField.packed.ended _ (λ _. (λ x. x.now)) (λ _ _. question.DescribedField.packed.clauses)
 question_DescribedField_packed _ 𝓤 𝓛 _ _ _ _ _ _ _ _ _ _ = one 𝓤 (λ p q. (alike p q, refl))
+
+pub question_DescribedField_numbered : SeenDetermined question.DescribedField.numbered.ended (λ _. List ℕ × ℕ) (λ _. (λ x. (x.section.now, x.bits))) (λ _ _. question.DescribedField.numbered.clauses)
+question_DescribedField_numbered _ 𝓤 𝓛 _ _ _ _ _ _ _ _ _ _ = one 𝓤 (λ p q. (λ i. (alike p.0 q.0 i, alike p.1 q.1 i), refl))
+
+pub question_DescribedField_grouped : SeenDetermined question.DescribedField.grouped.ended (λ _. List ℕ × Groups) (λ _. (λ x. (x.section.now, x.groups))) (λ _ _. question.DescribedField.grouped.clauses)
+question_DescribedField_grouped _ 𝓤 𝓛 _ _ _ _ _ _ _ _ _ _ = one 𝓤 (λ p q. (λ i. (alike p.0 q.0 i, alike p.1 q.1 i), refl))
 
 pub question_DescribedField_bitmap : SeenDetermined question.DescribedField.bitmap.ended _ (λ _. (λ x. x.now)) (λ _ _. question.DescribedField.bitmap.clauses)
 question_DescribedField_bitmap _ 𝓤 𝓛 _ _ _ _ _ _ _ _ _ _ = one 𝓤 (λ p q. (alike p q, refl))

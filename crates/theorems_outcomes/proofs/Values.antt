@@ -76,16 +76,16 @@ values_group_element _ 𝓤 𝓛 _ _ _ _ _ _ _ _ _ _ = one 𝓤 (λ p q. (alike 
 
 -- What a block holds of simple packing, one integer of it, and both runs of a field in it.
 pub values_simple_unpack : Determined values_simple.unpack.ended (λ _ _. values_simple.unpack.clauses)
-values_simple_unpack _ 𝓤 𝓛 _ _ _ _ _ _ _ _ _ _ = one 𝓤 (λ p q. (refl, λ i. (tt, (tt, (tt, (alike p q i, tt))))))
+values_simple_unpack _ 𝓤 𝓛 _ _ _ _ _ _ _ _ _ _ = one 𝓤 (λ p q. (refl, λ i. (tt, (tt, (alike p q i, tt)))))
 
 pub values_simple_put : (B : RattleType) (E : RattleType) (becomes : Becomes.Ghosts B.Denot E.Denot) (d : Dict) (copies : Clone.Ghosts B.Denot) (c : Dict) (elements : Clone.Ghosts E.Denot) (e : Dict) → Determined (values_simple.put.ended B E becomes d copies c elements e) (λ _ _. values_simple.put.clauses B E becomes d copies c elements e)
-values_simple_put B E becomes d copies c elements e _ 𝓤 𝓛 _ _ _ _ _ _ _ _ _ _ = one 𝓤 (λ p q. (refl, λ i. (tt, (tt, (tt, (tt, (alike p q i, tt)))))))
+values_simple_put B E becomes d copies c elements e _ 𝓤 𝓛 _ _ _ _ _ _ _ _ _ _ = one 𝓤 (λ p q. (refl, λ i. (tt, (tt, (tt, (alike p q i, tt))))))
 
 pub values_simple_integer_at : Determined values_simple.integer_at.ended (λ _ _. values_simple.integer_at.clauses)
 values_simple_integer_at _ 𝓤 𝓛 _ _ _ _ _ _ _ _ _ _ = one 𝓤 (λ p q. (alike p q, refl))
 
 pub values_simple_fill : Determined values_simple.fill.ended (λ _ _. values_simple.fill.clauses)
-values_simple_fill _ 𝓤 𝓛 _ _ _ _ _ _ _ _ _ _ = one 𝓤 (λ p q. (refl, λ i. (tt, (tt, (tt, (tt, (tt, (alike p.0 q.0 i, (alike p.1 q.1 i, tt)))))))))
+values_simple_fill _ 𝓤 𝓛 _ _ _ _ _ _ _ _ _ _ = one 𝓤 (λ p q. (refl, λ i. (tt, (tt, (tt, (tt, (alike p.0 q.0 i, (alike p.1 q.1 i, tt))))))))
 
 pub values_simple_window_fours : Determined values_simple.window_fours.ended (λ _ _. values_simple.window_fours.clauses)
 values_simple_window_fours _ 𝓤 𝓛 _ _ _ _ _ _ _ _ _ _ = one 𝓤 (λ p q. (alike p q, refl))
@@ -102,7 +102,7 @@ pub values_complex_integer_at : Determined values_complex.integer_at.ended (λ _
 values_complex_integer_at _ 𝓤 𝓛 _ _ _ _ _ _ _ _ _ _ = one 𝓤 (λ p q. (alike p q, refl))
 
 pub values_complex_fill : Determined values_complex.fill.ended (λ _ _. values_complex.fill.clauses)
-values_complex_fill _ 𝓤 𝓛 _ _ _ _ _ _ _ _ _ _ = one 𝓤 (λ p q. (refl, λ i. (tt, (tt, (tt, (tt, (alike p.0 q.0 i, (alike p.1 q.1 i, tt))))))))
+values_complex_fill _ 𝓤 𝓛 _ _ _ _ _ _ _ _ _ _ = one 𝓤 (λ p q. (refl, λ i. (tt, (tt, (tt, (alike p.0 q.0 i, (alike p.1 q.1 i, tt)))))))
 
 -- The largest integer of a field, in either packing.
 pub values_largest_of_simple : Determined values_largest.of_simple.ended (λ _ _. values_largest.of_simple.clauses)
@@ -113,13 +113,13 @@ values_largest_of_complex _ 𝓤 𝓛 _ _ _ _ _ _ _ _ _ _ = one 𝓤 (λ p q. (a
 
 -- The greys of its integers, and of its points.
 pub values_greys_put_simple : Determined values_greys.put_simple.ended (λ _ _. values_greys.put_simple.clauses)
-values_greys_put_simple _ 𝓤 𝓛 _ _ _ _ _ _ _ _ _ _ = one 𝓤 (λ p q. (refl, λ i. (tt, (tt, (tt, (alike p q i, tt))))))
+values_greys_put_simple _ 𝓤 𝓛 _ _ _ _ _ _ _ _ _ _ = one 𝓤 (λ p q. (refl, λ i. (tt, (tt, (alike p q i, tt)))))
 
 pub values_greys_put_complex : Determined values_greys.put_complex.ended (λ _ _. values_greys.put_complex.clauses)
-values_greys_put_complex _ 𝓤 𝓛 _ _ _ _ _ _ _ _ _ _ = one 𝓤 (λ p q. (refl, λ i. (tt, (tt, (tt, (alike p q i, tt))))))
+values_greys_put_complex _ 𝓤 𝓛 _ _ _ _ _ _ _ _ _ _ = one 𝓤 (λ p q. (refl, λ i. (tt, (tt, (alike p q i, tt)))))
 
 pub values_picture_paint_simple : Determined values_picture.paint_simple.ended (λ _ _. values_picture.paint_simple.clauses)
-values_picture_paint_simple _ 𝓤 𝓛 _ _ _ _ _ _ _ _ _ _ = one 𝓤 (λ p q. (refl, λ i. (tt, (tt, (tt, (tt, (tt, (alike p q i, tt))))))))
+values_picture_paint_simple _ 𝓤 𝓛 _ _ _ _ _ _ _ _ _ _ = one 𝓤 (λ p q. (refl, λ i. (tt, (tt, (tt, (tt, (alike p q i, tt)))))))
 
 pub values_picture_paint_complex : Determined values_picture.paint_complex.ended (λ _ _. values_picture.paint_complex.clauses)
-values_picture_paint_complex _ 𝓤 𝓛 _ _ _ _ _ _ _ _ _ _ = one 𝓤 (λ p q. (refl, λ i. (tt, (tt, (tt, (tt, (tt, (alike p q i, tt))))))))
+values_picture_paint_complex _ 𝓤 𝓛 _ _ _ _ _ _ _ _ _ _ = one 𝓤 (λ p q. (refl, λ i. (tt, (tt, (tt, (tt, (alike p q i, tt)))))))
