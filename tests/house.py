@@ -358,13 +358,16 @@ def definitions_are_read():
 
 
 def trust_is_counted():
-    """docs/TRUST.md tells the believed lines of each file, their sum, and the other counts of tests/help/believed.py; the README tells the sum."""
+    """docs/TRUST.md tells the believed lines of each file, their sum, and the other counts of tests/help/believed.py. The README tells the sum. Both tell how
+    many of the lines are examples, as the contents of docs/SPEC.md count them."""
     wanted = {'| %s | %d |' % row for row in believed.table()}
     told = {line for line in lines_of('docs/TRUST.md') if re.match(r'\| [a-z0-9_]+/(specs|proofs|src)/', line)}
     for row in sorted(wanted ^ told):
         yield 'docs/TRUST.md: %s: %s' % ('not there' if row in wanted else 'not so', row)
     total = '%d lines' % sum(count for _, count in believed.table())
-    for name, words in [('docs/TRUST.md', words) for words in believed.counts()] + [('README.md', total)]:
+    examples = re.search(r'\(#examples-on-either-side\) \| (\d+) \|', '\n'.join(lines_of('docs/SPEC.md'))).group(1) + ' of them'
+    pages = [('docs/TRUST.md', words) for words in believed.counts() + [examples]] + [('README.md', words) for words in (total, examples)]
+    for name, words in pages:
         if not re.search(r'\b%s\b' % words, ' '.join(lines_of(name))):
             yield '%s: not there: %s' % (name, words)
 
