@@ -2,15 +2,18 @@
 
 The program `tests_ask` answers questions about doubles, bits and times. This script makes the questions at random, works out each answer in its
 own way (whole numbers and fractions, Python's calendar), and compares. What it shows is that the definitions, which the code is proved to
-meet, are the ones that the world uses.
+meet, are the ones that the world uses. And it asks all questions of a run before it reads an answer, as any caller may.
 
   python3 -m tests.leaves           compare, and end in 'N passed, M failed'
   python3 -m tests.leaves --write   write the worked examples as the program's own sample, crates/tests_ask/stdin and stdout
 """
 import datetime
+import fcntl
 import os
 import random
+import subprocess
 import sys
+import threading
 from fractions import Fraction
 
 from tests.help import SEED, report
@@ -205,6 +208,32 @@ def worked_examples():
     ]
 
 
+# What a pipe is told to hold here, and how long the program may take, in seconds.
+PIPE = 4096
+PATIENCE = 60
+
+
+def asked_before_told(program):
+    """Whoever writes all of a run's questions before reading an answer is answered: the program reads them all first, however little a pipe holds."""
+    _, record, answer = worked_examples()[0]
+    records = record.ljust(RECORD, b'\0') * RECORDS_A_RUN
+    with subprocess.Popen(program, stdin=subprocess.PIPE, stdout=subprocess.PIPE) as running:
+        for end in (running.stdin, running.stdout):
+            fcntl.fcntl(end, fcntl.F_SETPIPE_SZ, PIPE)
+        late = threading.Timer(PATIENCE, running.kill)
+        late.start()
+        try:
+            running.stdin.write(records)
+            running.stdin.close()
+            told = running.stdout.read()
+        except BrokenPipeError:
+            told = b''
+        late.cancel()
+    answered = told == (answer + '\n').encode() * RECORDS_A_RUN
+    print('all questions written before an answer is read: %s' % ('answered' if answered else 'not answered within %d seconds, or wrongly' % PATIENCE))
+    return answered
+
+
 def main():
     ask = os.path.join(TOP, 'crates', 'tests_ask')
     examples = worked_examples()
@@ -225,6 +254,7 @@ def main():
     results.append(report.compared('worked examples', words, wanted, answers(program, records), '{}: expected {}, got {}'.format))
     makers = {'rebuild': random_rebuild, 'bits': random_bits, 'later': random_later, 'order': random_order}
     results += [compare(program, name, makers[name], count) for name, count in CASES.items()]
+    results.append(asked_before_told(program))
     return report.ended(results)
 
 

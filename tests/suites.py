@@ -19,7 +19,7 @@ SUITES = [
     Suite('gate', 14, 'the gate itself, with suites that lose tests, die, skip and fail'),
     Suite('house', 32, 'the rules of the house'),
     Suite('header', 13, 'the header, which is the manual, against the rules and the proved definition'),
-    Suite('leaves', 6, 'the leaf layers against computations of their own'),
+    Suite('leaves', 7, 'the leaf layers against computations of their own'),
     Suite('tiling', 3, 'the archive that C links against an independent reading'),
     Suite('fields', 28, 'descriptions, places, sheets and listings against an independent reading'),
     Suite('decoding', 16, 'every double and every presence against an independent reading'),

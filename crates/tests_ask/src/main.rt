@@ -2,7 +2,7 @@
 // lines with computations of their own.
 #![tactic(auto)]
 
-ghost use Rattle.std.specs.Prelude.{◌≡◌, length};
+ghost use Rattle.std.specs.Prelude.{◌≡◌, ◌≤◌, length};
 
 use bits_reader::BitReader;
 use calendar::Unit;
@@ -100,14 +100,27 @@ fn answer(rt: &impl Print, question: &[u8]) -> io::Result<()>
     println!(rt)
 }
 
-// Answers the whole questions of the first 65,536 octets of the input, one after the other. What is left of a question at its end is passed over.
-fn main(rt: HostRuntime) -> io::Result<()> {
-    let mut question = [0u8; 32];
-    for _ in 0..2048 {
-        if rt.stdin().read_exact(&mut question).is_err() {
-            break;
+// Reads until the run is full, the input ends or a read fails, and answers how many octets it has put at the start of the run.
+fn read_full<R: Read>(input: &mut R, run: &mut [u8]) -> usize
+    ensures { result ≤ length run.new }
+{
+    let mut got: usize = 0;
+    while got < run.len() {
+        match input.read(&mut run[got..]) {
+            Ok(0) | Err(_) => break,
+            Ok(more) => got += more,
         }
-        answer(&rt, &question)?;
+    }
+    got
+}
+
+// Answers the whole questions of the first 65,536 octets of the input, one after the other. All are read before one is answered, so that whoever asks may write
+// them all before reading an answer. What is left of a question at the end is passed over.
+fn main(rt: HostRuntime) -> io::Result<()> {
+    let mut input = [0u8; 65536];
+    let got = read_full(&mut rt.stdin(), &mut input);
+    for question in input[..got].chunks_exact(32) {
+        answer(&rt, question)?;
     }
     Ok(())
 }
