@@ -6,6 +6,7 @@ ghost use Rattle.octets.specs.Places.{first_bit};
 ghost use Rattle.bits.specs.Bits.{bits_at};
 ghost use Rattle.section_7_layout.specs.Runs.{differencing_at, layout_of, width_of, length_of, StartsNear, Limited};
 
+use bits_reader::BitReader;
 use octets::{BitPlace, FilePlace, OctetNumber, Signed};
 use section_5_groups::Grouping;
 
@@ -70,7 +71,7 @@ pub fn stored(run: &[u8], first: OctetNumber, b: u32, i: u32) -> u32
     ensures { (result ≡ bits_at run.now (first_bit first.0 + i * b) b) × (result < 2 ^ 31) }
 {
     let start = octets::first_bit(first);
-    bits::read_bits(run, BitPlace(start.0 + i as usize * b as usize), b)
+    BitReader::new(run, BitPlace(start.0 + i as usize * b as usize)).next(b)
 }
 
 // The width of group i.

@@ -29,11 +29,7 @@ pub fn integer_at(numbered: NumberedSection, m: u64) -> u32
     let section = numbered.section;
     let bits = numbered.bits;
     let first = octets::first_bit(OctetNumber(6));
-    bits::read_bits(
-        section,
-        BitPlace(first.0 + m as usize * bits as usize),
-        bits,
-    )
+    BitReader::new(section, BitPlace(first.0 + m as usize * bits as usize)).next(bits)
 }
 
 // How many fours of a field's n integers, from its first on, are read four at a time, each from one window.
