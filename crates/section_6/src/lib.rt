@@ -34,7 +34,7 @@ pub fn bitmap_in_force<'a>(file: &'a [u8], presence: Presence, points: u32) -> &
     ensures { result.now ≡ bitmap_in_force file.now presence points }
 {
     match presence {
-        Presence::All => &[],
+        Presence::All => &file[..0],
         Presence::Own(at) | Presence::Earlier(at) => bitmap_in(FileSection { file, at }, points),
     }
 }
