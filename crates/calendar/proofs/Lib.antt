@@ -1,10 +1,10 @@
--- The laws of the calendar, from the plain ones up. Other crates cite those of `Tests` and of `Laws`.
+-- The laws of the calendar, from the plain ones up. Other crates may cite those of `Order`, `Tests` and `Laws`.
 mod General
 mod Years
 mod Months
 mod Days
 mod Times
-mod Order
+pub mod Order
 pub mod Tests
 pub mod Laws
 mod Examples

@@ -28,7 +28,7 @@ six_parts :
 six_parts y y' m m' d d' h h' n n' s s' m1 m2 d1 d2 h1 h2 n1 n2 s1 s2 = rw (then_then, then_then, then_then, two_parts, two_parts, two_parts, two_parts, two_parts)
 
 -- The order by the digits is that of their numbers.
-ordered_lem : (a b : Time) → ordered a b ≡ nat_cmp (fourteen_digits a) (fourteen_digits b)
+pub ordered_lem : (a b : Time) → ordered a b ≡ nat_cmp (fourteen_digits a) (fourteen_digits b)
 ordered_lem a b = grind (arith, nat_tests)
 
 -- Of Gregorian times the parts compared one after the other tell what the digits tell.

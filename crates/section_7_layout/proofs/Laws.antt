@@ -7,7 +7,9 @@ use lib.Dec.{lit<}
 use lib.Pow.{pow_mono}
 use Rattle.bits.specs.Bits.{bits_at}
 use Rattle.bits.proofs.Laws.{bits_lt}
+use Rattle.section_5_groups.specs.declared.Grouping.{Grouping}
 use Rattle.section_7_layout.specs.declared.Layout.{Layout}
+use Rattle.section_7_layout.specs.Runs.{layout_of, Limited}
 
 -- A number of at most four octets fits 32 bits.
 pub fits_four : {v : ℕ} (n : ℕ) → n ≤ 4 → v < 256 ^ n → v < 2 ^ 32
@@ -28,3 +30,10 @@ pub record Bounded (at : Layout) : Type 0 where
   pub lengths_behind : at.widths.0 ≤ at.lengths.0
   pub packed_behind : at.lengths.0 ≤ at.packed.0
   pub small : at.packed.0 < 2 ^ 40
+
+pub layout_bounded : (bits : ℕ) (g : Grouping) → Limited bits g → g.groups < 2 ^ 32 → Bounded (layout_of bits g)
+layout_bounded bits g h k =
+    let references : g.groups * bits < 2 ^ 37 = run_fits k h.of_numbers in
+    let widths : g.groups * g.widths.bits < 2 ^ 37 = run_fits k h.of_width_bits in
+    let lengths : g.groups * g.lengths.bits < 2 ^ 37 = run_fits k h.of_length_bits in
+    record { behind_head = omega arith; widths_behind = omega arith; lengths_behind = omega arith; packed_behind = omega arith; small = omega arith }
