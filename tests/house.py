@@ -131,13 +131,13 @@ def unused_names():
 
 def short_functions():
     """No function in Rattle, Rust or C has more than 40 lines beside its contract."""
-    heads = {'.rt': r'(pub )?(extern "C" )?fn ', '.rs': r'\s*(pub |pub\(crate\) |#\[no_mangle\] )*(extern "C" )?fn ', '.c': r'[a-z].*\)$', '.h': r'[a-z].*\)$'}
+    heads = {'.rt': r'\s*(pub )?(extern "C" )?fn ', '.rs': r'\s*(pub |pub\(crate\) |#\[no_mangle\] )*(extern "C" )?fn ', '.c': r'[a-z].*\)$', '.h': r'[a-z].*\)$'}
     for name in FILES:
         start, head = None, heads.get(os.path.splitext(name)[1], r'(?!)')
         for number, line in enumerate(lines_of(name) if head != r'(?!)' else [], 1):
             if re.match(head, line):
                 start, contract, end = number, 0, re.match(r'\s*', line).group() + '}'
-            if start and re.match(r'    (requires|ensures) ', line):
+            if start and re.match(r'\s+(requires|ensures) ', line):
                 contract += 1
             if start and line == end:
                 if number - start + 1 - contract > 40:
@@ -154,11 +154,11 @@ def contracts_fit():
 
 
 def names_mean_one_thing():
-    """No two crates define the same name in specs/, and none there has the name of another crate's struct or enum."""
+    """No two crates define the same name in specs/, and none there has the name of another crate's struct, enum or trait."""
     homes = {}
     for name in sources('.antt', '.rt'):
         crate, folder = name.split('/')[1:3]
-        head = r'\s*pub (?:struct|enum) (\w+)' if folder == 'src' else r'\s*(?:abbrev |unfoldable )(?:pub )?(\S+) :|\s*(?:pub )?(?:record|data) (\S+) '
+        head = r'\s*pub (?:struct|enum|trait) (\w+)' if folder == 'src' else r'\s*(?:abbrev |unfoldable )(?:pub )?(\S+) :|\s*(?:pub )?(?:record|data) (\S+) '
         for line in lines_of(name) if folder in ('src', 'specs') else []:
             found = re.match(head, line)
             if found:
@@ -187,6 +187,22 @@ def public_functions():
             within = [] if module == 'lib' else module.split('/')
             for function in filter(here.is_contract, here.defined):
                 found['.'.join([crate] + within + [function])] = (name, [here.lines[number] for number in here.defined[function]])
+    return found
+
+
+def methods_of_traits():
+    """The methods that public types of the libraries have by an `impl` of a trait, as CRATE.IMPL.METHOD, where IMPL is the name that the checker gives the
+    `impl`: the file of each. Where the head is of a form that is not known here, IMPL is that head, of which there can be no theorem."""
+    found = {}
+    for name in sources('.rt'):
+        crate, folder = name.split('/')[1:3]
+        if folder == 'src' and 'crates/%s/src/lib.rt' % crate in FILES:
+            text = '\n'.join(lines_of(name))
+            for head, kind, body in re.findall(r'^impl(\b[^\n]* for &?(\w+)[^\n]*) \{\n(.*?)^\}', text, re.M | re.S):
+                known = re.fullmatch(r'(?:<[^>]*>)? (\w+)(?:<(\w+)>)? for \w+(?:<[^>]*>)?', head)
+                words = (kind, known.group(1), (known.group(2) or '').capitalize()) if known else (head,)
+                if re.search(r'^pub (struct|enum) %s\b' % kind, text, re.M):
+                    found.update(('%s.%s.%s' % (crate, ''.join(words), method), name) for method in re.findall(r'^    fn (\w+)', body, re.M))
     return found
 
 
@@ -267,8 +283,10 @@ def outcome_of(function, contract):
 
 
 def outcomes_are_determined():
-    """Every public function of a library has its theorem in crates/theorems_outcomes, of its own contract and word for word, and there is no other."""
+    """Every public function of a library, and every method of a trait that a public type has, has its theorem in crates/theorems_outcomes, of its own contract
+    and word for word, and there is no other."""
     wanted = {outcome_of(function, contract): name for function, (name, contract) in public_functions().items()}
+    wanted.update((outcome_of(method, ['']), name) for method, name in methods_of_traits().items())
     for name in FILES:
         if not re.match(r'crates/theorems_outcomes/proofs/\w+\.antt$', name):
             continue
@@ -379,10 +397,11 @@ def demands_name_what_is_there():
     named = set(re.findall(r'`([a-z0-9_]+/[a-z0-9_]+)`', text))
     for edit in sorted(edits ^ named):
         yield 'docs: %s %s' % (edit, 'is not named' if edit in edits else 'is no edit')
-    functions = {(function.split('.')[0], function.split('.')[-1]) for function in public_functions()}
-    for crate, function in sorted(set(re.findall(r'`([a-z0-9_]+)::(?:[A-Z]\w*::)?(\w+)`', text)) - functions):
-        if crate in listed():
-            yield 'docs: no function %s::%s' % (crate, function)
+    parts = [function.split('.') for function in public_functions()]
+    functions = {'::'.join(words if words[1][0].isupper() else [words[0], words[-1]]) for words in parts}
+    for function in sorted(set(re.findall(r'`([a-z0-9_]+::(?:[A-Z]\w*::)?\w+)`', text)) - functions):
+        if function.split('::')[0] in listed():
+            yield 'docs: no function %s' % function
     for names, file in re.findall(r'((?:`[^`]+`,? )+)\(([a-z0-9_]+/(?:specs|proofs)/\w+\.antt)\)', text):
         lines = lines_of('crates/' + file) if 'crates/' + file in FILES else []
         for name in re.findall(r'`([^`]+)`', names):

@@ -121,6 +121,9 @@ pub refusals_code_of : Determined refusals.code_of.ended (λ _ _. refusals.code_
 refusals_code_of _ 𝓤 𝓛 _ _ _ _ _ _ _ _ _ _ = one 𝓤 (λ p q. (alike p q, refl))
 
 -- Times.
+pub calendar_UnitTryFromU8_try_from : Determined calendar.UnitTryFromU8.try_from.ended (λ _ _. calendar.UnitTryFromU8.try_from.clauses)
+calendar_UnitTryFromU8_try_from _ 𝓤 𝓛 _ _ _ _ _ _ _ _ _ _ = one 𝓤 (λ p q. (alike p q, refl))
+
 pub calendar_time_at : Determined calendar.time_at.ended (λ _ _. calendar.time_at.clauses)
 calendar_time_at _ 𝓤 𝓛 _ _ _ _ _ _ _ _ _ _ = one 𝓤 (λ p q. (alike p q, refl))
 

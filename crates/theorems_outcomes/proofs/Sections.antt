@@ -60,6 +60,9 @@ section_3_grid_at _ 𝓤 𝓛 _ _ _ _ _ _ _ _ _ _ = one 𝓤 (λ p q. (alike p q
 pub section_4_product_definition_at : Determined section_4.product_definition_at.ended (λ _ _. section_4.product_definition_at.clauses)
 section_4_product_definition_at _ 𝓤 𝓛 _ _ _ _ _ _ _ _ _ _ = one 𝓤 (λ p q. (alike p q, refl))
 
+pub section_4_KindTryFromU8_try_from : Determined section_4.KindTryFromU8.try_from.ended (λ _ _. section_4.KindTryFromU8.try_from.clauses)
+section_4_KindTryFromU8_try_from _ 𝓤 𝓛 _ _ _ _ _ _ _ _ _ _ = one 𝓤 (λ p q. (alike p q, refl))
+
 -- Section 5.
 pub section_5_groups_grouping_at : Determined section_5_groups.grouping_at.ended (λ _ _. section_5_groups.grouping_at.clauses)
 section_5_groups_grouping_at _ 𝓤 𝓛 _ _ _ _ _ _ _ _ _ _ = one 𝓤 (λ p q. (alike p q, refl))

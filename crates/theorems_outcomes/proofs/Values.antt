@@ -58,6 +58,9 @@ pub values_group_put : (B : RattleType) (E : RattleType) (becomes : Becomes.Ghos
 values_group_put B E becomes d copies c elements e _ 𝓤 𝓛 _ _ _ _ _ _ _ _ _ _ =
     two 𝓤 (λ p q. (kept_determined p.0 q.0, λ i. (tt, (tt, (tt, (tt, (alike p.1 q.1 i, tt)))))))
 
+pub values_group_ItselfBecomes_of : Determined values_group.ItselfBecomes.of.ended (λ _ _. values_group.ItselfBecomes.of.clauses)
+values_group_ItselfBecomes_of _ 𝓤 𝓛 _ _ _ _ _ _ _ _ _ _ = one 𝓤 (λ p q. (alike p q, refl))
+
 pub values_group_behind : Determined values_group.behind.ended (λ _ _. values_group.behind.clauses)
 values_group_behind _ 𝓤 𝓛 _ _ _ _ _ _ _ _ _ _ = one 𝓤 (λ p q. (alike p q, refl))
 
