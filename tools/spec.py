@@ -50,6 +50,10 @@ stands where it is named first. Lines of %d characters and more are broken here;
 | `[]`, `x ∷ xs`, `xs ++ ys` | the empty list; x and then the list xs; xs and then ys |
 | `take n xs`, `drop n xs`, `get_or xs i d` | the first n elements; the others; element i, or d past the end |
 | `T b`, `nat_abs z`, `fin s m e` | b is true; the size of z; the float m x 2^e, below 0 where s is true |
+| `Option A`, `Some x`, `None` | an A, or nothing: it is x; it is nothing |
+| `Result A E`, `Ok x`, `Err e` | an A, or an E that says why there is none: it is x; it is not, for the reason e |
+| `Ordering`, `Less`, `Equal`, `Greater` | which of three it is: below; the same; above |
+| `max a b`, `map f xs` | the larger of two numbers; the list of what f makes of each element |
 | `λ x. e`, `Type 0` | the function that makes e of x; what a statement, or a type, is one of |
 """
 
