@@ -1,5 +1,5 @@
 // The one place where the sections of a field are judged. Refusals 1 to 14 are tried here, in the order of refusals, and get their numbers and places here; and so
-// are those behind them that describe and decode can meet. Whoever answers a question asks here first. Nothing has a precondition: what cannot be answered is
+// are those behind them that describe and decode can meet. Whoever answers a question asks here first. No question has a precondition: what cannot be answered is
 // refused.
 #![tactic(auto)]
 
