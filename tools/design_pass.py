@@ -32,16 +32,18 @@ def plain(lines):
 
 
 def functions(crate, text):
-    """Public functions and methods: the head with the clauses, up to the body."""
-    owner, lines = '', text.split('\n')
+    """Public functions and methods, those of a trait that a public type has among them: the head with the clauses, up to the body."""
+    owner, of_trait, lines = '', False, text.split('\n')
+    seen = set(re.findall(r'^pub (?:struct|enum) (\w+)', text, re.M))
     for i, line in enumerate(lines):
-        block = re.match(r'(?:pub )?(?:impl|trait)\b.*?(\w+)(?:<[^{]*>)? *\{$', line)
+        trait = re.match(r'pub trait (\w+)', line)
+        block = trait or re.match(r'impl(?:<[^>]*>)? (?:\w+(?:<[^>]*>)? for )?(\w+)', line)
         if block:
-            owner = block[1] + '::'
+            owner, of_trait = block[1] + '::', bool(trait) or ' for ' in line and block[1] in seen
         elif line == '}':
-            owner = ''
+            owner, of_trait = '', False
         found = re.match(r'( *)(pub )?(?:const )?fn (\w+)', line)
-        if found and (found[2] or owner):
+        if found and (found[2] or of_trait):
             ends = (j for j in range(i, len(lines)) if lines[j] in (found[1] + '{', found[1] + '}') or lines[j].endswith(('{', ';')))
             end = next(ends)
             body = lines[i:end] if lines[end].strip() == '{' else lines[i:end + 1]
