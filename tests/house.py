@@ -176,33 +176,36 @@ def code_stands_on_code():
                 yield 'crates.txt: %s stands on %s' % (name, under)
 
 
+def sources_of_libraries():
+    """Each file of src/ of the libraries, but for those that export to C: its crate, the modules that it lies in, and its name."""
+    for name in sources('.rt'):
+        crate, folder, module = re.match(r'crates/([a-z0-9_]+)/(\w+)/(.*)\.rt$', name).groups()
+        if folder == 'src' and 'crates/%s/src/lib.rt' % crate in FILES and crate not in exporters():
+            yield crate, [] if module == 'lib' else module.split('/'), name
+
+
 def public_functions():
     """The public functions of the libraries, from every file of src/, as CRATE.FUNCTION or CRATE.MODULE.FUNCTION, and the methods as CRATE.TYPE.METHOD: the
     file and the contract of each."""
     found = {}
-    for name in sources('.rt'):
-        crate, folder, module = re.match(r'crates/([a-z0-9_]+)/(\w+)/(.*)\.rt$', name).groups()
-        if folder == 'src' and 'crates/%s/src/lib.rt' % crate in FILES and crate not in exporters():
-            here = believed.file_of(name[len('crates/'):])
-            within = [] if module == 'lib' else module.split('/')
-            for function in filter(here.is_contract, here.defined):
-                found['.'.join([crate] + within + [function])] = (name, [here.lines[number] for number in here.defined[function]])
+    for crate, within, name in sources_of_libraries():
+        here = believed.file_of(name[len('crates/'):])
+        for function in filter(here.is_contract, here.defined):
+            found['.'.join([crate] + within + [function])] = (name, [here.lines[number] for number in here.defined[function]])
     return found
 
 
 def methods_of_traits():
-    """The methods that public types of the libraries have by an `impl` of a trait, as CRATE.IMPL.METHOD, where IMPL is the name that the checker gives the
-    `impl`: the file of each. Where the head is of a form that is not known here, IMPL is that head, of which there can be no theorem."""
+    """The methods that public types of the libraries have by an `impl` of a trait, as CRATE.IMPL.METHOD, or CRATE.MODULE.IMPL.METHOD, where IMPL is the name that
+    the checker gives the `impl`: the file of each. Where the head has a form that is not known here IMPL is that head, of which there can be no theorem."""
     found = {}
-    for name in sources('.rt'):
-        crate, folder = name.split('/')[1:3]
-        if folder == 'src' and 'crates/%s/src/lib.rt' % crate in FILES:
-            text = '\n'.join(lines_of(name))
-            for head, kind, body in re.findall(r'^impl(\b[^\n]* for &?(\w+)[^\n]*) \{\n(.*?)^\}', text, re.M | re.S):
-                known = re.fullmatch(r'(?:<[^>]*>)? (\w+)(?:<(\w+)>)? for \w+(?:<[^>]*>)?', head)
-                words = (kind, known.group(1), (known.group(2) or '').capitalize()) if known else (head,)
-                if re.search(r'^pub (struct|enum) %s\b' % kind, text, re.M):
-                    found.update(('%s.%s.%s' % (crate, ''.join(words), method), name) for method in re.findall(r'^    fn (\w+)', body, re.M))
+    for crate, within, name in sources_of_libraries():
+        text = '\n'.join(lines_of(name))
+        for head, kind, body in re.findall(r'^impl(\b[^\n]* for &?(\w+)[^\n]*) \{\n(.*?)^\}', text, re.M | re.S):
+            known = re.fullmatch(r'(?:<[^>]*>)? (\w+)(?:<(\w+)>)? for \w+(?:<[^>]*>)?', head)
+            by = kind + known.group(1) + (known.group(2) or '').capitalize() if known else head
+            if re.search(r'^pub (struct|enum) %s\b' % kind, text, re.M):
+                found.update(('.'.join([crate] + within + [by, method]), name) for method in re.findall(r'^    fn (\w+)', body, re.M))
     return found
 
 
