@@ -1,5 +1,5 @@
 // The questions where one of a field's points lies: in degrees, and on the sheet of a Lambert map. Behind the refusals of describe come 20, 17 and 15, which are tried and
-// get their numbers and places here. Nothing has a precondition: what cannot be answered is refused.
+// get their numbers and places here. No question has a precondition: what cannot be answered is refused.
 #![tactic(auto)]
 
 ghost use Rattle.std.specs.Prelude.{◌≡◌, ◌≤◌};

@@ -1,5 +1,5 @@
 // The question point: the value of one point of a field, or that it is missing. No other value is made for it. Behind the refusals of describe come 17, 15 and 16: an
-// integer behind the point's own is not looked at. Nothing has a precondition: what cannot be answered is refused.
+// integer behind the point's own is not looked at. No question has a precondition: what cannot be answered is refused.
 #![tactic(auto)]
 
 ghost use Rattle.std.specs.Prelude.{◌≡◌, ◌<◌};
